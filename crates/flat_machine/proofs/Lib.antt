@@ -1,0 +1,9 @@
+pub mod EntryLemmas
+pub mod HistoryLemmas
+pub mod KeptLemmas
+pub mod LengthLemmas
+pub mod RequestLemmas
+pub mod SoundLemmas
+pub mod TwinLemmas
+pub mod TwinRuns
+pub mod Unwinding

@@ -1,0 +1,251 @@
+-- Every step keeps a state sound.
+use Rattle.flat_machine.specs.Ciphers.{check_value}
+use Rattle.flat_machine.specs.Decisions.{Decided, Goes, Stops}
+use Rattle.flat_machine.specs.Entries.{Entry, active_seen, entered, entry_of, entry_refusal}
+use Rattle.flat_machine.specs.EntrySteps.{begin_as, begin_entry, begin_with, entry_answer, first_of, press_in, press_seen}
+use Rattle.flat_machine.specs.FinishSteps.{crypt_now, delete_now, deletes, device_reply, finish_by, finish_pin, finish_with, import_now, imports, init_now, inits, maintain_now, maintains, pin_now, resets}
+use Rattle.flat_machine.specs.KeyRows.{Change, KeyRows, change_to, changed}
+use Rattle.flat_machine.specs.Machine.{next}
+use Rattle.flat_machine.specs.Power.{loads, replaces}
+use Rattle.flat_machine.specs.RequestSteps.{command_refusal, is_canceled, is_due, or_locked, submit_by, submit_refusal}
+use Rattle.flat_machine.specs.Requests.{begun, eligible, ended_where, finished, may_begin, pending_count, pending_where, refused_at_begin, same, working}
+use Rattle.flat_machine.specs.declared.types.Asked.{Asked}
+use Rattle.flat_machine.specs.declared.types.Row.{Row}
+use Rattle.flat_machine.specs.declared.types.Row.TheVariants.{Gone, InWork, Waiting}
+use Rattle.flat_machine.specs.SessionSteps.{of_open}
+use Rattle.flat_machine.specs.Sessions.{holder_of, holds, is_open, locked_out}
+use Rattle.flat_machine.specs.Sound.{Sound, SubmitsOk, allowed, pending_pass}
+use Rattle.flat_machine.specs.State.{After, Flat, Public, Running, Said, decided, device_refusal, is_off, opening, running, says}
+use Rattle.flat_machine.specs.Works.{Readied, Setting, Works, pin_answer}
+use Rattle.flat_machine.specs.declared.types.Device.{Device}
+use Rattle.flat_machine.specs.declared.types.Device.TheVariants.{Bad, Off, Ready, Stopped}
+use Rattle.flat_machine.specs.declared.types.Seen.{Seen}
+use Rattle.flat_machine.specs.declared.types.Seen.TheVariants.{Ended, Ignored, Took}
+use Rattle.key_source.specs.Keys.{has_key}
+use Rattle.key_source.specs.declared.Key.{Key}
+use Rattle.pad_steps.specs.declared.commands.Command.{Command}
+use Rattle.pad_steps.specs.declared.steps.DiskWord.{DiskWord}
+use Rattle.pad_steps.specs.declared.commands.PinRequest.{PinRequest}
+use Rattle.pad_steps.specs.declared.answers.Refusal.{Refusal}
+use Rattle.pad_steps.specs.declared.answers.Reply.{Reply}
+use Rattle.pad_steps.specs.declared.steps.Step.{Step}
+use Rattle.pad_words.specs.declared.numbers.Session.{Session}
+use Rattle.std.specs.Prelude.{Bool, IsTrue, List, None, Option, Some, [], cond, false, if◌then◌else◌, length, nat_le, not, refl, true, ℕ, ◌&&◌, ◌++◌, ◌+◌, ◌==◌, ◌∷◌, ◌≡◌}
+use Rattle.pad_steps.specs.declared.answers.Out.TheVariants as out
+use Rattle.pad_steps.specs.declared.answers.Told.TheVariants as told
+use Rattle.pad_steps.specs.declared.answers.Reply.TheVariants as reply
+use Rattle.pad_steps.specs.declared.answers.Answer.TheVariants as answer
+use Rattle.pad_steps.specs.declared.answers.Refusal.TheVariants as refusal
+use Rattle.pad_steps.specs.declared.commands.Command.TheVariants as command
+use Rattle.pad_steps.specs.declared.steps.Step.TheVariants as step
+use Rattle.pad_steps.specs.declared.steps.DiskWord.TheVariants as word
+
+and_left : (a b : Bool) → (a && b) ≡ true → a ≡ true
+and_left true b h = refl
+and_left false b h = cc
+
+and_right : (a b : Bool) → (a && b) ≡ true → b ≡ true
+and_right true b h = h
+and_right false b h = cc
+
+and_both : (a b : Bool) → a ≡ true → b ≡ true → (a && b) ≡ true
+and_both true b ha hb = hb
+and_both false b ha hb = cc
+
+pass-weaken : (t u : Command → Bool) (rows : List (Row Command Reply)) → ((c : Command) → t c ≡ true → u c ≡ true) → pending_pass t rows ≡ true → pending_pass u rows ≡ true
+pass-weaken t u [] f h = refl
+pass-weaken t u (Waiting a ∷ rows) f h = and_both (u a.command) (pending_pass u rows) (f a.command (and_left (t a.command) (pending_pass t rows) h)) (pass-weaken t u rows f (and_right (t a.command) (pending_pass t rows) h))
+pass-weaken t u (InWork a ∷ rows) f h = and_both (u a.command) (pending_pass u rows) (f a.command (and_left (t a.command) (pending_pass t rows) h)) (pass-weaken t u rows f (and_right (t a.command) (pending_pass t rows) h))
+pass-weaken t u (Gone id s r ∷ rows) f h = pass-weaken t u rows f h
+
+pass_waiting-if : (t : Command → Bool) (b : Bool) (a : Asked Command) (r : Reply) (rows : List (Row Command Reply)) → t a.command ≡ true → pending_pass t rows ≡ true → pending_pass t ((if b then Gone a.id a.session r else Waiting a) ∷ rows) ≡ true
+pass_waiting-if t true a r rows ha h = h
+pass_waiting-if t false a r rows ha h = and_both (t a.command) (pending_pass t rows) ha h
+
+pass_work-if : (t : Command → Bool) (b : Bool) (a : Asked Command) (r : Reply) (rows : List (Row Command Reply)) → t a.command ≡ true → pending_pass t rows ≡ true → pending_pass t ((if b then Gone a.id a.session r else InWork a) ∷ rows) ≡ true
+pass_work-if t true a r rows ha h = h
+pass_work-if t false a r rows ha h = and_both (t a.command) (pending_pass t rows) ha h
+
+pass-ended_where : (t : Command → Bool) (test : Asked Command → Bool) (r : Reply) (rows : List (Row Command Reply)) → pending_pass t rows ≡ true → pending_pass t (ended_where test r rows) ≡ true
+pass-ended_where t test r [] h = refl
+pass-ended_where t test r (Waiting a ∷ rows) h = pass_waiting-if t (test a) a r (ended_where test r rows) (and_left (t a.command) (pending_pass t rows) h) (pass-ended_where t test r rows (and_right (t a.command) (pending_pass t rows) h))
+pass-ended_where t test r (InWork a ∷ rows) h = pass_work-if t (test a) a r (ended_where test r rows) (and_left (t a.command) (pending_pass t rows) h) (pass-ended_where t test r rows (and_right (t a.command) (pending_pass t rows) h))
+pass-ended_where t test r (Gone id s q ∷ rows) h = pass-ended_where t test r rows h
+
+-- where all end, none is left
+pass-all_ended : (t : Command → Bool) (r : Reply) (rows : List (Row Command Reply)) → pending_pass t (ended_where (λ a. true) r rows) ≡ true
+pass-all_ended t r [] = refl
+pass-all_ended t r (Waiting a ∷ rows) = pass-all_ended t r rows
+pass-all_ended t r (InWork a ∷ rows) = pass-all_ended t r rows
+pass-all_ended t r (Gone id s q ∷ rows) = pass-all_ended t r rows
+
+pass-finished : (t : Command → Bool) (r : Reply) (rows : List (Row Command Reply)) → pending_pass t rows ≡ true → pending_pass t (finished r rows) ≡ true
+pass-finished t r [] h = refl
+pass-finished t r (Waiting a ∷ rows) h = and_both (t a.command) _ (and_left (t a.command) (pending_pass t rows) h) (pass-finished t r rows (and_right (t a.command) (pending_pass t rows) h))
+pass-finished t r (InWork a ∷ rows) h = and_right (t a.command) (pending_pass t rows) h
+pass-finished t r (Gone id s q ∷ rows) h = pass-finished t r rows h
+
+pass-push : (t : Command → Bool) (rows : List (Row Command Reply)) (a : Asked Command) → pending_pass t rows ≡ true → t a.command ≡ true → pending_pass t (rows ++ Waiting a ∷ []) ≡ true
+pass-push t [] a h ha = and_both (t a.command) true ha refl
+pass-push t (Waiting b ∷ rows) a h ha = and_both (t b.command) _ (and_left (t b.command) (pending_pass t rows) h) (pass-push t rows a (and_right (t b.command) (pending_pass t rows) h) ha)
+pass-push t (InWork b ∷ rows) a h ha = and_both (t b.command) _ (and_left (t b.command) (pending_pass t rows) h) (pass-push t rows a (and_right (t b.command) (pending_pass t rows) h) ha)
+pass-push t (Gone id s q ∷ rows) a h ha = pass-push t rows a h ha
+
+pass_begun-if : (t : Command → Bool) (b : Bool) (a : Asked Command) (row : Row Command Reply) (rows begun_rows : List (Row Command Reply)) → t a.command ≡ true → pending_pass t (row ∷ rows) ≡ true → pending_pass t begun_rows ≡ true
+    → pending_pass t (if b then row ∷ rows else Waiting a ∷ begun_rows) ≡ true
+pass_begun-if t true a row rows others ha h k = h
+pass_begun-if t false a row rows others ha h k = and_both (t a.command) (pending_pass t others) ha k
+
+pass-begun : (t : Command → Bool) (holder : Option Session) (rows : List (Row Command Reply)) → pending_pass t rows ≡ true → pending_pass t (begun holder rows) ≡ true
+pass-begun t holder [] h = refl
+pass-begun t holder (Waiting a ∷ rows) h = pass_begun-if t (may_begin holder a) a (InWork a) rows (begun holder rows) (and_left (t a.command) (pending_pass t rows) h) h (pass-begun t holder rows (and_right (t a.command) (pending_pass t rows) h))
+pass-begun t holder (InWork a ∷ rows) h = and_both (t a.command) _ (and_left (t a.command) (pending_pass t rows) h) (pass-begun t holder rows (and_right (t a.command) (pending_pass t rows) h))
+pass-begun t holder (Gone id s q ∷ rows) h = pass-begun t holder rows h
+
+pass-refused_at_begin : (t : Command → Bool) (r : Reply) (holder : Option Session) (rows : List (Row Command Reply)) → pending_pass t rows ≡ true → pending_pass t (refused_at_begin r holder rows) ≡ true
+pass-refused_at_begin t r holder [] h = refl
+pass-refused_at_begin t r holder (Waiting a ∷ rows) h = pass_begun-if t (may_begin holder a) a (Gone a.id a.session r) rows (refused_at_begin r holder rows) (and_left (t a.command) (pending_pass t rows) h) (and_right (t a.command) (pending_pass t rows) h) (pass-refused_at_begin t r holder rows (and_right (t a.command) (pending_pass t rows) h))
+pass-refused_at_begin t r holder (InWork a ∷ rows) h = and_both (t a.command) _ (and_left (t a.command) (pending_pass t rows) h) (pass-refused_at_begin t r holder rows (and_right (t a.command) (pending_pass t rows) h))
+pass-refused_at_begin t r holder (Gone id s q ∷ rows) h = pass-refused_at_begin t r holder rows h
+
+-- a device that is on allows what any device allowed
+allowed-on : (ok : Command → Bool) (d e : Device) (c : Command) → is_off e ≡ false → allowed ok d c ≡ true → allowed ok e c ≡ true
+allowed-on ok d e c on h = and_both (ok c) (not (is_off e)) (and_left (ok c) (not (is_off d)) h) (rw on refl)
+
+module _ (ok : Command → Bool) (p : Public) (sound : Sound ok p) where
+  sound_if : (b : Bool) (x y : Said) → Sound ok x.public → Sound ok y.public → Sound ok (cond b x y).public
+  sound_if true x y one other = one
+  sound_if false x y one other = other
+
+  sound_open : (s : Session) (x : Said) → Sound ok x.public → Sound ok (of_open p s x).public
+  sound_open s x h = sound_if (is_open s p.sessions) x (says p (out.Told s (told.No refusal.NoSession))) h sound
+
+  sound_ended : (test : Asked Command → Bool) (r : Refusal) → IsTrue (pending_pass (allowed ok p.device) (ended_where test (reply.No r) p.requests))
+  sound_ended test r = pass-ended_where (allowed ok p.device) test (reply.No r) p.requests sound
+
+  -- the device is on after, and the requests go on as they were, or as the one in work ends
+  sound_on : (e : Device) → is_off e ≡ false → IsTrue (pending_pass (allowed ok e) p.requests)
+  sound_on e on = pass-weaken (allowed ok p.device) (allowed ok e) p.requests (λ c. allowed-on ok p.device e c on) sound
+
+  sound_on_finished : (e : Device) (r : Reply) → is_off e ≡ false → IsTrue (pending_pass (allowed ok e) (finished r p.requests))
+  sound_on_finished e r on = pass-finished (allowed ok e) r p.requests (sound_on e on)
+
+  sound_finished : (r : Reply) → IsTrue (pending_pass (allowed ok p.device) (finished r p.requests))
+  sound_finished r = pass-finished (allowed ok p.device) r p.requests sound
+
+  sound_loads : (w : DiskWord) → Sound ok (loads p w).public
+  sound_loads word.Quiet = sound
+  sound_loads word.Done = sound
+  sound_loads (word.Failed n) = sound_on Stopped refl
+  sound_loads (word.Cut n) = pass-all_ended (allowed ok Off) (reply.No refusal.ConnectionLost) p.requests
+  sound_loads (word.Loaded rows) = sound_on Ready refl
+  sound_loads (word.Bad slot) = sound_on (Bad slot) refl
+
+  sound_submit : (s : Session) (limit : ℕ) (c : Command) (o : Option Refusal) → (o ≡ None → allowed ok p.device c ≡ true) → Sound ok (submit_by o p s limit c).public
+  sound_submit s limit c (Some r) good = sound
+  sound_submit s limit c None good = pass-push (allowed ok p.device) p.requests (record { id = length p.requests + 1; session = s; submitted = p.clock; limit = limit; command = c }) sound (good refl)
+
+  sound_begin_entry : (a : Asked Command) (e : Entry) (r : Option Refusal) → Sound ok (begin_entry p a e r).public
+  sound_begin_entry a e (Some r) = pass-refused_at_begin (allowed ok p.device) (reply.No r) (holder_of p.line) p.requests sound
+  sound_begin_entry a e None = pass-begun (allowed ok p.device) (holder_of p.line) p.requests sound
+
+  sound_begin_as : (a : Asked Command) (e : Option Entry) → Sound ok (begin_as p a e).public
+  sound_begin_as a None = pass-begun (allowed ok p.device) (holder_of p.line) p.requests sound
+  sound_begin_as a (Some e) = sound_begin_entry a e (first_of (device_refusal p.device) (entry_refusal e))
+
+  sound_begin_with : (w a : Option (Asked Command)) → Sound ok (begin_with p w a).public
+  sound_begin_with (Some w) a = sound
+  sound_begin_with None None = sound
+  sound_begin_with None (Some a) = sound_begin_as a (entry_of a.command)
+
+  sound_replaces : (a : Asked Command) (todo : List Change) (done : Public → Said) (w : DiskWord) → ((keys : KeyRows) → Sound ok (done (record p { keys = keys })).public) → Sound ok (replaces p a todo done w).public
+  sound_replaces a todo done word.Quiet d = d (changed todo p.keys)
+  sound_replaces a todo done word.Done d = d (changed todo p.keys)
+  sound_replaces a todo done (word.Failed n) d = sound_on_finished Stopped (reply.No refusal.HardwareError) refl
+  sound_replaces a todo done (word.Cut n) d = pass-all_ended (allowed ok Off) (reply.No refusal.ConnectionLost) p.requests
+  sound_replaces a todo done (word.Loaded rows) d = d (changed todo p.keys)
+  sound_replaces a todo done (word.Bad slot) d = d (changed todo p.keys)
+
+  sound_decided : {A : Type 0} → (a : Asked Command) (d : Decided A) (go : A → Said) → ((x : A) → Sound ok (go x).public) → Sound ok (decided p a d go).public
+  sound_decided a (Stops r accused) go k = sound_finished (reply.No r)
+  sound_decided a (Goes x) go k = k x
+
+  sound_reset : (a : Asked Command) (w : DiskWord) → Sound ok (resets p a w).public
+  sound_reset a word.Quiet = sound_finished (device_reply p.device)
+  sound_reset a word.Done = sound_finished (device_reply p.device)
+  sound_reset a (word.Failed n) = sound_on_finished Stopped (reply.No refusal.HardwareError) refl
+  sound_reset a (word.Cut n) = pass-all_ended (allowed ok Off) (reply.No refusal.ConnectionLost) p.requests
+  sound_reset a (word.Loaded rows) = sound_on_finished Ready (reply.Ok answer.Done) refl
+  sound_reset a (word.Bad slot) = sound_on_finished (Bad slot) (reply.No (refusal.BadStore slot)) refl
+
+  sound_pin : (set : Setting) (held : List ℕ) (a : Asked Command) (r : PinRequest) (d : Decided Readied) → Sound ok (finish_pin set p held a r d).public
+  sound_pin set held a r (Stops why accused) = sound_finished (reply.No why)
+  sound_pin set held a r (Goes y) = sound_finished (reply.Ok (pin_answer set p.drawn r held y))
+
+  sound_finish_by : (set : Setting) (held : List ℕ) (a : Asked Command) (c : Command) (w : DiskWord) → Sound ok (finish_by set p held a c w).public
+  sound_finish_by set held a (command.GetPin rules) w = sound
+  sound_finish_by set held a (command.GetData rules) w = sound
+  sound_finish_by set held a (command.SecureKeyEntry rules) w = sound
+  sound_finish_by set held a (command.MaintainPin on) w = sound_decided a (maintain_now p on) (maintains p a) (λ x. sound_finished (reply.Ok answer.Done))
+  sound_finish_by set held a (command.Pin r) w = sound_pin set held a r (pin_now set.works p (length held) r)
+  sound_finish_by set held a (command.Crypt r) w = sound_decided a (crypt_now set.cipher p r) _ (λ x. sound_finished (reply.Ok x))
+  sound_finish_by set held a (command.ImportKey r) w = sound_decided a (import_now set.cipher p r) _ (λ new. sound_replaces a (change_to new ∷ []) (imports set.cipher a r new.1) w (λ keys. sound_finished (reply.Ok (answer.Key (check_value set.cipher r.verify new.1.value)))))
+  sound_finish_by set held a (command.DeleteKey name) w = sound_decided a (delete_now p name) _ (λ c. sound_replaces a (c ∷ []) (deletes a) w (λ keys. sound_finished (reply.Ok answer.Done)))
+  sound_finish_by set held a command.Init w = sound_decided a (init_now p) _ (λ todo. sound_replaces a todo (inits a) w (λ keys. sound_finished (reply.Ok answer.Done)))
+  sound_finish_by set held a command.Reset w = sound_reset a w
+  sound_finish_by set held a command.RsaImport w = sound_finished (reply.No refusal.UnsuppCommand)
+
+  sound_finish : (set : Setting) (held : List ℕ) (o : Option (Asked Command)) (w : DiskWord) → Sound ok (finish_with set p held o w).public
+  sound_finish set held None w = sound
+  sound_finish set held (Some a) w = sound_finish_by set held a a.command w
+
+-- a Submit that is not refused finds the device on, and a command that passes
+none_if : {A : Type 0} → (b : Bool) (r : A) (o : Option A) → (if b then Some r else o) ≡ None → (b ≡ false) × (o ≡ None)
+none_if true r o e = absurd (some_none r e)
+  where
+    some_none : {A : Type 0} → (r : A) → Some r ≡ None → ⊥
+    some_none r e = cc
+none_if false r o e = (refl, e)
+
+none_locked : (x : Option Session) (o : Option Refusal) → or_locked x o ≡ None → o ≡ None
+none_locked None o e = e
+none_locked (Some x) o e = cc
+
+submitted_ok : (ok : Command → Bool) (works : Works) (p : Public) (s : Session) (c : Command) → (command_refusal works c ≡ None → IsTrue (ok c)) → submit_refusal works p s c ≡ None → allowed ok p.device c ≡ true
+submitted_ok ok works p s c good e =
+    let is_on = none_if (not (is_open s p.sessions)) refusal.NoSession _ e in
+    let device = none_if (is_off p.device) refusal.ConnectionLost _ is_on.1 in
+    let room = none_if (nat_le 16 (pending_count s p.requests)) (refusal.QueueFull 16) _ (none_locked (locked_out s p.line) _ device.1) in
+    and_both (ok c) (not (is_off p.device)) (good room.1) (rw device.0 refl)
+
+press_if : (ok : Command → Bool) (b : Bool) (x y : After) → Sound ok x.state.public → Sound ok y.state.public → Sound ok (cond b x y).state.public
+press_if ok true x y one other = one
+press_if ok false x y one other = other
+
+sound_seen : (ok : Command → Bool) (set : Setting) (h : Flat) (w : Running) (k : Key) (seen : Seen) → Sound ok h.public → Sound ok (press_seen set.cipher h w k seen).state.public
+sound_seen ok set h w k Ignored sound = sound
+sound_seen ok set h w k (Took s) sound = sound
+sound_seen ok set h w k (Ended s c) sound = sound_finished ok h.public sound (reply.Ok (entry_answer set.cipher w.entry.sort w.entry.check c (entered w.entry (k ∷ h.presses))))
+
+sound_press : (ok : Command → Bool) (set : Setting) (h : Flat) (o : Option Running) (k : Key) → Sound ok h.public → Sound ok (press_in set.cipher h o k).state.public
+sound_press ok set h None k sound = sound
+sound_press ok set h (Some w) k sound = press_if ok (has_key w.entry.active k) _ _ (sound_seen ok set h w k (active_seen w.entry (length (entered w.entry h.presses)) k) sound) sound
+
+pub next_sound : (ok : Command → Bool) (set : Setting) (h : Flat) (s : Step) (w : DiskWord) → SubmitsOk ok set.works s → Sound ok h.public → Sound ok (next set h s w).state.public
+next_sound ok set h (step.Open s) w good sound = sound_if ok h.public sound (is_open s h.public.sessions) _ _ sound sound
+next_sound ok set h (step.Close s) w good sound = sound_open ok h.public sound s _ (sound_ended ok h.public sound (λ a. same a.session s) refusal.Canceled)
+next_sound ok set h (step.Listen s c) w good sound = sound_open ok h.public sound s _ sound
+next_sound ok set h (step.Lock s) w good sound = sound_open ok h.public sound s _ sound
+next_sound ok set h (step.Unlock s) w good sound = sound_open ok h.public sound s _ (sound_if ok h.public sound (holds s h.public.line) _ _ sound sound)
+next_sound ok set h (step.Submit s limit c) w good sound = sound_submit ok h.public sound s limit c (submit_refusal set.works h.public s c) (submitted_ok ok set.works h.public s c good)
+next_sound ok set h (step.Cancel s id) w good sound = sound_open ok h.public sound s _ (sound_if ok h.public sound (not (id == 0) && (length (pending_where (is_canceled h.public s id) h.public.requests) == 0)) _ _ sound (sound_ended ok h.public sound (is_canceled h.public s id) refusal.Canceled))
+next_sound ok set h step.Begin w good sound = sound_if ok h.public sound (is_off h.public.device) _ _ sound (sound_begin_with ok h.public sound (working h.public.requests) (eligible (holder_of h.public.line) h.public.requests))
+next_sound ok set h step.Finish w good sound = sound_finish ok h.public sound set h.held (working h.public.requests) w
+next_sound ok set h (step.Press k) w good sound = sound_press ok set h (running h.public) k sound
+next_sound ok set h (step.Tick n) w good sound = sound_ended ok h.public sound (is_due (h.public.clock + n)) refusal.Timeout
+next_sound ok set h (step.Ask s q) w good sound = sound_open ok h.public sound s _ sound
+next_sound ok set h step.Off w good sound = sound_if ok h.public sound (is_off h.public.device) _ _ sound (pass-all_ended (allowed ok Off) (reply.No refusal.ConnectionLost) h.public.requests)
+next_sound ok set h step.Boot w good sound = sound_if ok h.public sound (is_off h.public.device) _ _ (sound_loads ok h.public sound w) sound
+
+pub opening_sound : (ok : Command → Bool) → Sound ok opening.public
+opening_sound ok = refl

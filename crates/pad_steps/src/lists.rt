@@ -1,0 +1,147 @@
+//! Lists of rows, of names, of what is said, and of the disk's words.
+ghost use Rattle.std.specs.Prelude.{◌≡◌, ◌≤◌, ◌<◌, ◌+◌, ◌++◌, ◌∷◌, [], OnOk, OnErr, IfOk, IsOk};
+
+use crate::answers::Out;
+use crate::steps::DiskWord;
+use key_attributes::KeyRow;
+use pad_words::{KeyName, NoMemory};
+use std::alloc::Global;
+use std::marker::Model;
+
+/// Key rows with their slots, rising.
+#[derive(Drop)]
+pub struct Rows {
+    list: Vec<(u8, KeyRow)>,
+}
+
+impl Model for Rows {
+    ghost use Rattle.std.specs.Prelude.{ℕ, List};
+    ghost use Rattle.key_attributes.specs.declared.KeyRow.{KeyRow};
+
+    ghost Value = { List (ℕ × KeyRow) };
+
+    ghost view = { λ r. r.list.items };
+}
+
+/// Names of keys.
+#[derive(Drop)]
+pub struct Names {
+    list: Vec<KeyName>,
+}
+
+impl Model for Names {
+    ghost use Rattle.std.specs.Prelude.{ℕ, List};
+
+    ghost Value = { List (List ℕ) };
+
+    ghost view = { λ n. n.list.items };
+}
+
+/// What a step says, in order, and how many more outs it takes without memory.
+#[derive(Drop)]
+pub struct Outs {
+    list: Vec<Out>,
+}
+
+impl Model for Outs {
+    ghost use Rattle.std.specs.Prelude.{vec_len, vec_capacity, ◌-◌};
+    ghost use Rattle.pad_steps.specs.Lines.{OutList};
+
+    ghost Value = { OutList };
+
+    ghost view = { λ o. record { items = o.list.items; spare = vec_capacity o.list - vec_len o.list } };
+}
+
+impl Outs {
+    /// No outs, with room for a few.
+    pub fn new(alloc: Global) -> Result<Outs, NoMemory>
+        ensures { IfOk result (λ o. o.items ≡ []) }
+    {
+        match Vec::with_capacity(alloc, 4) {
+            Ok(list) => Ok(Outs { list }),
+            Err(_) => Err(NoMemory),
+        }
+    }
+
+    /// The outs in order.
+    pub fn items(&self) -> &[Out]
+        ensures { result.now ≡ self.now.items }
+    {
+        self.list.as_slice()
+    }
+
+    /// Makes room for n more. After want of memory the list is as before.
+    pub fn reserve(&mut self, n: usize) -> Result<(), NoMemory>
+        ensures items { self.new.items ≡ self.old.items }
+        ensures room { OnOk result (n ≤ self.new.spare) }
+    {
+        match self.list.reserve(n) {
+            Ok(()) => Ok(()),
+            Err(_) => Err(NoMemory),
+        }
+    }
+
+    /// Puts an out last, without memory where a place is spare. After want of memory the list is as before.
+    pub fn push(&mut self, item: Out) -> Result<(), NoMemory>
+        ensures ok { OnOk result (self.new.items ≡ self.old.items ++ item ∷ []) }
+        ensures err { OnErr result (self.new.items ≡ self.old.items) }
+        ensures room { 0 < self.old.spare → IsOk result }
+        ensures spare { self.old.spare ≤ self.new.spare + 1 }
+    {
+        match self.list.push(item) {
+            Ok(()) => Ok(()),
+            Err(_) => Err(NoMemory),
+        }
+    }
+
+    /// Drops all outs, and keeps the memory for later ones.
+    pub fn clear(&mut self)
+        ensures { self.new.items ≡ [] }
+    {
+        self.list.clear();
+    }
+}
+
+/// The words of a run, one for each step.
+#[derive(Drop)]
+pub struct Words {
+    list: Vec<DiskWord>,
+}
+
+impl Model for Words {
+    ghost use Rattle.std.specs.Prelude.{List};
+    ghost use Rattle.pad_steps.specs.declared.steps.DiskWord.{DiskWord};
+
+    ghost Value = { List DiskWord };
+
+    ghost view = { λ w. w.list.items };
+}
+
+impl Words {
+    /// No words. It takes no memory.
+    pub fn empty(alloc: Global) -> Words
+        ensures { result ≡ [] }
+    {
+        Words {
+            list: Vec::new(alloc),
+        }
+    }
+
+    /// The words in order.
+    pub fn items(&self) -> &[DiskWord]
+        ensures { result.now ≡ self.now }
+    {
+        self.list.as_slice()
+    }
+
+    /// Puts a word last. After want of memory the list is as before.
+    pub fn push(&mut self, item: DiskWord) -> Result<(), NoMemory>
+        ensures ok { OnOk result (self.new ≡ self.old ++ item ∷ []) }
+        ensures err { OnErr result (self.new ≡ self.old) }
+    {
+        match self.list.push(item) {
+            Ok(()) => Ok(()),
+            Err(_) => Err(NoMemory),
+        }
+    }
+}
