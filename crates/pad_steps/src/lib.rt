@@ -3,6 +3,7 @@
 
 pub mod answers;
 pub mod commands;
+mod copies;
 pub mod lists;
 pub mod steps;
 

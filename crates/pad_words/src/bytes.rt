@@ -94,3 +94,15 @@ impl Model for Nibbles {
 
     ghost view = { λ n. n.values.items };
 }
+
+impl Nibbles {
+    /// The same values again, without memory.
+    pub fn copy(&self) -> Nibbles
+        ensures { result ≡ self.now }
+    {
+        match ArrayVec::try_from(self.values.as_slice()) {
+            Ok(values) => Nibbles { values },
+            Err(_) => unreachable!(),
+        }
+    }
+}

@@ -1,4 +1,6 @@
 //! Names of keys.
+ghost use Rattle.std.specs.Prelude.{◌≡◌};
+
 use arrayvec::ArrayVec;
 use std::marker::Model;
 
@@ -14,4 +16,16 @@ impl Model for KeyName {
     ghost Value = { List ℕ };
 
     ghost view = { λ n. n.bytes.items };
+}
+
+impl KeyName {
+    /// The same name again, without memory.
+    pub fn copy(&self) -> KeyName
+        ensures { result ≡ self.now }
+    {
+        match ArrayVec::try_from(self.bytes.as_slice()) {
+            Ok(bytes) => KeyName { bytes },
+            Err(_) => unreachable!(),
+        }
+    }
 }

@@ -1,0 +1,149 @@
+//! Copies of commands. Each takes its memory first, and is the command again.
+ghost use Rattle.std.specs.Prelude.{◌≡◌, IfOk};
+
+use crate::commands::{
+    BlockRequest, CheckRequest, Command, CryptRequest, ExtraRequest, ImportRequest, ImportSource,
+    PinRequest, Start,
+};
+use pad_words::{KeyName, NoMemory, Octets};
+use std::alloc::Global;
+
+fn copy_name(name: &Option<KeyName>) -> Option<KeyName>
+    ensures { result ≡ name.now }
+{
+    match name {
+        Some(name) => Some(name.copy()),
+        None => None,
+    }
+}
+
+impl BlockRequest {
+    fn copy(&self) -> BlockRequest
+        ensures { result ≡ self.now }
+    {
+        BlockRequest {
+            form: self.form,
+            key: self.key.copy(),
+            second: copy_name(&self.second),
+            xor: self.xor,
+            customer: self.customer.copy(),
+            pad: self.pad,
+        }
+    }
+}
+
+impl CheckRequest {
+    fn copy(&self) -> CheckRequest
+        ensures { result ≡ self.now }
+    {
+        CheckRequest {
+            key: self.key.copy(),
+            validation: self.validation.copy(),
+            pad: self.pad,
+            offset: self.offset.copy(),
+            count: self.count,
+            no_zero: self.no_zero,
+            table: self.table.copy(),
+        }
+    }
+}
+
+impl ExtraRequest {
+    fn copy(&self, alloc: Global) -> Result<ExtraRequest, NoMemory>
+        ensures { IfOk result (λ request. request ≡ self.now) }
+    {
+        Ok(ExtraRequest {
+            kind: self.kind,
+            key: self.key.copy(),
+            body: Octets::copy(alloc, self.body.items())?,
+        })
+    }
+}
+
+impl PinRequest {
+    fn copy(&self, alloc: Global) -> Result<PinRequest, NoMemory>
+        ensures { IfOk result (λ request. request ≡ self.now) }
+    {
+        match self {
+            PinRequest::Block(request) => Ok(PinRequest::Block(request.copy())),
+            PinRequest::Check(request) => Ok(PinRequest::Check(request.copy())),
+            PinRequest::Extra(request) => Ok(PinRequest::Extra(request.copy(alloc)?)),
+        }
+    }
+}
+
+impl Start {
+    fn copy(&self) -> Start
+        ensures { result ≡ self.now }
+    {
+        match self {
+            Start::Zero => Start::Zero,
+            Start::Clear(value) => Start::Clear(*value),
+            Start::Sealed(name, value) => Start::Sealed(name.copy(), *value),
+        }
+    }
+}
+
+impl CryptRequest {
+    fn copy(&self, alloc: Global) -> Result<CryptRequest, NoMemory>
+        ensures { IfOk result (λ request. request ≡ self.now) }
+    {
+        Ok(CryptRequest {
+            algorithm: self.algorithm,
+            direction: self.direction,
+            key: self.key.copy(),
+            start: self.start.copy(),
+            pad: self.pad,
+            body: Octets::copy(alloc, self.body.items())?,
+        })
+    }
+}
+
+impl ImportSource {
+    fn copy(&self, alloc: Global) -> Result<ImportSource, NoMemory>
+        ensures { IfOk result (λ source. source ≡ self.now) }
+    {
+        match self {
+            ImportSource::Clear(value) => Ok(ImportSource::Clear(Octets::copy(alloc, value.items())?)),
+            ImportSource::Sealed(name, value) => {
+                let value = Octets::copy(alloc, value.items())?;
+                Ok(ImportSource::Sealed(name.copy(), value))
+            }
+            ImportSource::Part => Ok(ImportSource::Part),
+        }
+    }
+}
+
+impl ImportRequest {
+    fn copy(&self, alloc: Global) -> Result<ImportRequest, NoMemory>
+        ensures { IfOk result (λ request. request ≡ self.now) }
+    {
+        Ok(ImportRequest {
+            name: self.name.copy(),
+            source: self.source.copy(alloc)?,
+            uses: self.uses,
+            verify: self.verify,
+        })
+    }
+}
+
+impl Command {
+    /// The command again. It fails for want of memory alone.
+    pub fn copy(&self, alloc: Global) -> Result<Command, NoMemory>
+        ensures { IfOk result (λ command. command ≡ self.now) }
+    {
+        match self {
+            Command::GetPin(rules) => Ok(Command::GetPin(*rules)),
+            Command::GetData(rules) => Ok(Command::GetData(*rules)),
+            Command::SecureKeyEntry(rules) => Ok(Command::SecureKeyEntry(*rules)),
+            Command::MaintainPin(on) => Ok(Command::MaintainPin(*on)),
+            Command::Pin(request) => Ok(Command::Pin(request.copy(alloc)?)),
+            Command::Crypt(request) => Ok(Command::Crypt(request.copy(alloc)?)),
+            Command::ImportKey(request) => Ok(Command::ImportKey(request.copy(alloc)?)),
+            Command::DeleteKey(name) => Ok(Command::DeleteKey(name.copy())),
+            Command::Init => Ok(Command::Init),
+            Command::Reset => Ok(Command::Reset),
+            Command::RsaImport => Ok(Command::RsaImport),
+        }
+    }
+}
