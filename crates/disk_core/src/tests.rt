@@ -3,6 +3,7 @@ use super::*;
 use pad_words::Octets;
 use std::alloc::Allocator;
 use std::fmt::Display;
+use std::io;
 use std::io::{BufRead, Error, ErrorKind, Input, Lines, Print, Read};
 use std::test::Fail;
 
@@ -64,69 +65,78 @@ fn more_than_32_calls(rt: HostRuntime) {
     assert!(rt; Calls::of(&[7; 33]).is_none());
 }
 
-// A host whose standard streams all fail.
-struct BrokenHost;
+// A host whose standard input is a few bytes and then a fault, and whose standard output is a fault.
+struct FaultyHost;
 
 #[derive(Drop)]
-struct BrokenReader;
+struct FaultyReader {
+    bytes: &'static [u8],
+}
 
-fn broken() -> Error {
+fn fault() -> Error {
     Error::from(ErrorKind::Other)
 }
 
-impl Read for BrokenReader {
-    fn read(&mut self, _buf: &mut [u8]) -> std::io::Result<usize> {
-        Err(broken())
+impl Read for FaultyReader {
+    fn read(&mut self, buf: &mut [u8]) -> io::Result<usize> {
+        if self.bytes.is_empty() {
+            return Err(fault());
+        }
+        self.bytes.read(buf)
     }
 }
 
-impl BufRead for BrokenReader {
-    fn fill_buf(&mut self) -> std::io::Result<&[u8]> {
-        Err(broken())
+impl BufRead for FaultyReader {
+    fn fill_buf(&mut self) -> io::Result<&[u8]> {
+        Err(fault())
     }
 
     fn consume(&mut self, _amount: usize) {}
 }
 
-impl Input for BrokenHost {
-    type Reader = BrokenReader;
+impl Input for FaultyHost {
+    type Reader = FaultyReader;
 
-    fn read_line<A: Allocator + Clone>(&self, _buf: &mut String<A>) -> std::io::Result<usize> {
-        Err(broken())
+    fn read_line<A: Allocator + Clone>(&self, _buf: &mut String<A>) -> io::Result<usize> {
+        Err(fault())
     }
 
-    fn lines<A: Allocator>(&self, alloc: A) -> Lines<BrokenReader, A> {
-        BrokenReader.lines(alloc)
+    fn lines<A: Allocator>(&self, alloc: A) -> Lines<FaultyReader, A> {
+        self.reader().lines(alloc)
     }
 
-    fn reader(&self) -> BrokenReader {
-        BrokenReader
+    fn reader(&self) -> FaultyReader {
+        FaultyReader { bytes: b"ab" }
     }
 }
 
-impl Print for BrokenHost {
-    fn print<D: Display + Drop>(&self, _value: D) -> std::io::Result<()> {
-        Err(broken())
+impl Print for FaultyHost {
+    fn print<D: Display + Drop>(&self, _value: D) -> io::Result<()> {
+        Err(fault())
     }
 
-    fn println<D: Display + Drop>(&self, _value: D) -> std::io::Result<()> {
-        Err(broken())
+    fn println<D: Display + Drop>(&self, _value: D) -> io::Result<()> {
+        Err(fault())
     }
 
-    fn write_all(&self, _bytes: &[u8]) -> std::io::Result<()> {
-        Err(broken())
+    fn write_all(&self, _bytes: &[u8]) -> io::Result<()> {
+        Err(fault())
     }
 }
 
 #[test]
-fn standard_streams(rt: HostRuntime) {
-    let mut sink = StdSink::new(&rt);
-    assert_eq!(rt; sink.give(b"given\n"), Ok(6));
-    let mut source = StdSource::new(&rt);
-    assert_eq!(rt; source.take(&mut []), Ok(0));
+fn standard_input(rt: HostRuntime) {
+    assert_eq!(rt; StdSource::new(&rt).take(&mut []), Ok(0));
 
-    let mut sink = StdSink::new(&BrokenHost);
-    assert_eq!(rt; sink.give(b"given\n"), Err(Failed));
-    let mut source = StdSource::new(&BrokenHost);
-    assert_eq!(rt; source.take(&mut [0; 4]), Err(Failed));
+    let mut source = StdSource::new(&FaultyHost);
+    let mut piece = [0; 4];
+    assert_eq!(rt; source.take(&mut piece), Ok(2));
+    assert_eq!(rt; piece, [97, 98, 0, 0]);
+    assert_eq!(rt; source.take(&mut piece), Err(Failed));
+}
+
+#[test]
+fn standard_output(rt: HostRuntime) {
+    assert_eq!(rt; StdSink::new(&rt).give(b"given\n"), Ok(6));
+    assert_eq!(rt; StdSink::new(&FaultyHost).give(b"given\n"), Err(Failed));
 }
