@@ -8,11 +8,11 @@ use Rattle.flat_machine.specs.KeyRows.{Change, KeyRows, change_to, changed}
 use Rattle.flat_machine.specs.Machine.{next}
 use Rattle.flat_machine.specs.Power.{loads, replaces}
 use Rattle.flat_machine.specs.RequestSteps.{command_refusal, is_canceled, is_due, or_locked, submit_by, submit_refusal}
-use Rattle.flat_machine.specs.Requests.{begun, eligible, ended_where, finished, may_begin, pending_count, pending_where, refused_at_begin, same, working}
+use Rattle.flat_machine.specs.Requests.{begun, eligible, ended_where, finished, may_begin, pending_count, pending_where, refused_at_begin, same_session, working}
 use Rattle.flat_machine.specs.declared.types.Asked.{Asked}
 use Rattle.flat_machine.specs.declared.types.Row.{Row}
 use Rattle.flat_machine.specs.declared.types.Row.TheVariants.{Gone, InWork, Waiting}
-use Rattle.flat_machine.specs.SessionSteps.{of_open}
+use Rattle.flat_machine.specs.SessionSteps.{if_open}
 use Rattle.flat_machine.specs.Sessions.{holder_of, holds, is_open, locked_out}
 use Rattle.flat_machine.specs.Sound.{Sound, SubmitsOk, allowed, pending_pass}
 use Rattle.flat_machine.specs.State.{After, Flat, Public, Running, Said, decided, device_refusal, is_off, opening, running, says}
@@ -117,7 +117,7 @@ module _ (ok : Command → Bool) (p : Public) (sound : Sound ok p) where
   sound_if true x y one other = one
   sound_if false x y one other = other
 
-  sound_open : (s : Session) (x : Said) → Sound ok x.public → Sound ok (of_open p s x).public
+  sound_open : (s : Session) (x : Said) → Sound ok x.public → Sound ok (if_open p s x).public
   sound_open s x h = sound_if (is_open s p.sessions) x (says p (out.Told s (told.No refusal.NoSession))) h sound
 
   sound_ended : (test : Asked Command → Bool) (r : Refusal) → IsTrue (pending_pass (allowed ok p.device) (ended_where test (reply.No r) p.requests))
@@ -225,7 +225,7 @@ press_if ok false x y one other = other
 sound_seen : (ok : Command → Bool) (set : Setting) (h : Flat) (w : Running) (k : Key) (seen : Seen) → Sound ok h.public → Sound ok (press_seen set.cipher h w k seen).state.public
 sound_seen ok set h w k Ignored sound = sound
 sound_seen ok set h w k (Took s) sound = sound
-sound_seen ok set h w k (Ended s c) sound = sound_finished ok h.public sound (reply.Ok (entry_answer set.cipher w.entry.sort w.entry.check c (entered w.entry (k ∷ h.presses))))
+sound_seen ok set h w k (Ended s c) sound = sound_finished ok h.public sound (reply.Ok (entry_answer set.cipher w.entry.kind w.entry.check c (entered w.entry (k ∷ h.presses))))
 
 sound_press : (ok : Command → Bool) (set : Setting) (h : Flat) (o : Option Running) (k : Key) → Sound ok h.public → Sound ok (press_in set.cipher h o k).state.public
 sound_press ok set h None k sound = sound
@@ -233,7 +233,7 @@ sound_press ok set h (Some w) k sound = press_if ok (has_key w.entry.active k) _
 
 pub next_sound : (ok : Command → Bool) (set : Setting) (h : Flat) (s : Step) (w : DiskWord) → SubmitsOk ok set.works s → Sound ok h.public → Sound ok (next set h s w).state.public
 next_sound ok set h (step.Open s) w good sound = sound_if ok h.public sound (is_open s h.public.sessions) _ _ sound sound
-next_sound ok set h (step.Close s) w good sound = sound_open ok h.public sound s _ (sound_ended ok h.public sound (λ a. same a.session s) refusal.Canceled)
+next_sound ok set h (step.Close s) w good sound = sound_open ok h.public sound s _ (sound_ended ok h.public sound (λ a. same_session a.session s) refusal.Canceled)
 next_sound ok set h (step.Listen s c) w good sound = sound_open ok h.public sound s _ sound
 next_sound ok set h (step.Lock s) w good sound = sound_open ok h.public sound s _ sound
 next_sound ok set h (step.Unlock s) w good sound = sound_open ok h.public sound s _ (sound_if ok h.public sound (holds s h.public.line) _ _ sound sound)

@@ -2,7 +2,7 @@
 use Rattle.flat_machine.proofs.Unwinding.{alike_self, flat, masked_alike, masked_press, same_alike, same_shape}
 use Rattle.flat_machine.specs.Machine.{Act, lines_from, masked, next, release, releases_from, run, run_from, shown_step, status}
 use Rattle.flat_machine.specs.Power.{word_fate}
-use Rattle.flat_machine.specs.Requests.{same}
+use Rattle.flat_machine.specs.Requests.{same_session}
 use Rattle.flat_machine.specs.State.{Flat, Public, opening, running}
 use Rattle.flat_machine.specs.Twins.{Alike, AlikeAfter, AlikeEntries, TwinSteps, Twins, TwinsFrom}
 use Rattle.flat_machine.specs.Works.{Setting}

@@ -22,7 +22,7 @@ use Rattle.pad_steps.specs.declared.answers.Shown.TheVariants as shown
 
 -- a running entry: its kind, lengths, keys, and the check value that a key part answers
 pub record Entry : Type 0 where
-  pub sort : EntryKind
+  pub kind : EntryKind
   pub least : ℕ
   pub greatest : ℕ
   pub auto_end : Bool
@@ -31,18 +31,18 @@ pub record Entry : Type 0 where
   pub check : Verify
 
 -- a greatest length of 0 stands for 16
-abbrev pub greatest_of : ℕ → ℕ
-greatest_of n = if n == 0 then 16 else n
+abbrev pub greatest_length : ℕ → ℕ
+greatest_length n = if n == 0 then 16 else n
 
 -- the entry of PIN or data rules
 abbrev pub entry_by : EntryKind → EntryRules → Entry
-entry_by k rules = record { sort = k; least = rules.min; greatest = greatest_of rules.max; auto_end = rules.auto_end; active = rules.active; terminate = rules.terminate; check = verify.Nothing }
+entry_by k rules = record { kind = k; least = rules.min; greatest = greatest_length rules.max; auto_end = rules.auto_end; active = rules.active; terminate = rules.terminate; check = verify.Nothing }
 
 -- the entry of an entry command
 abbrev pub entry_of : Command → Option Entry
 entry_of (command.GetPin rules) = Some (entry_by entry_kind.Pin rules)
 entry_of (command.GetData rules) = Some (entry_by entry_kind.Figures rules)
-entry_of (command.SecureKeyEntry p) = Some (record { sort = entry_kind.Part; least = p.count; greatest = p.count; auto_end = p.auto_end; active = p.active; terminate = p.terminate; check = p.verify })
+entry_of (command.SecureKeyEntry p) = Some (record { kind = entry_kind.Part; least = p.count; greatest = p.count; auto_end = p.auto_end; active = p.active; terminate = p.terminate; check = p.verify })
 entry_of (command.MaintainPin on) = None
 entry_of (command.Pin r) = None
 entry_of (command.Crypt r) = None
@@ -69,19 +69,19 @@ abbrev pub has_hex_bits : Mask → Bool
 has_hex_bits m = not ((m.keys / 1024) % 64 == 0)
 
 -- key bits other than ENTER, CANCEL and HELP stand
-abbrev pub has_odd_ends : Mask → Bool
-has_odd_ends m = not (m.keys % 65536 == 0) || not ((m.keys / 262144) % 4 == 0) || not (m.keys / 2097152 == 0)
+abbrev pub has_unsupported_terminators : Mask → Bool
+has_unsupported_terminators m = not (m.keys % 65536 == 0) || not ((m.keys / 262144) % 4 == 0) || not (m.keys / 2097152 == 0)
 
 -- a mask has a key that this entry cannot have
-abbrev pub unsupported : Entry → Bool
-unsupported e = nat_le 2097152 e.active.keys || nat_le 2097152 e.terminate.keys
-    || (not (is_key_part e.sort) && (has_hex_bits e.active || has_hex_bits e.terminate)) || has_odd_ends e.terminate
+abbrev pub has_unsupported_keys : Entry → Bool
+has_unsupported_keys e = nat_le 2097152 e.active.keys || nat_le 2097152 e.terminate.keys
+    || (not (is_key_part e.kind) && (has_hex_bits e.active || has_hex_bits e.terminate)) || has_unsupported_terminators e.terminate
 
 -- why an entry is refused, in order
 abbrev pub entry_refusal : Entry → Option Refusal
 entry_refusal e = if nat_lt e.greatest e.least then Some refusal.MinimumLength
     else (if is_empty_mask e.active then Some refusal.NoActiveKeys
-    else (if unsupported e then Some refusal.KeyNotSupported else None))
+    else (if has_unsupported_keys e then Some refusal.KeyNotSupported else None))
 
 -- the value of a key that is a digit of this kind of entry
 abbrev pub digit_in : EntryKind → Key → Option ℕ
@@ -117,22 +117,22 @@ after_value e (Some v) k digits = after_digit e digits v
 -- the digits of an entry; the latest press stands first
 abbrev pub entered : Entry → List Key → List ℕ
 entered e [] = []
-entered e (k ∷ earlier) = after_value e (digit_in e.sort k) k (entered e earlier)
+entered e (k ∷ earlier) = after_value e (digit_in e.kind k) k (entered e earlier)
 
 -- how a terminating key ends an entry of this many digits
 abbrev pub ends_by : Entry → ℕ → Key → Completion → Seen
 ends_by e count k c = if nat_lt count e.least then Ignored else Ended (shown.Plain k) c
 
 -- what a terminating key does
-abbrev pub ended_seen : Entry → ℕ → Key → Seen
-ended_seen e count keypad.Enter = ends_by e count keypad.Enter completion.Enter
-ended_seen e count keypad.Cancel = Ended (shown.Plain keypad.Cancel) completion.Cancel
-ended_seen e count keypad.Help = ends_by e count keypad.Help completion.Help
-ended_seen e count (keypad.Fdk n) = ends_by e count (keypad.Fdk n) (completion.Fdk n)
-ended_seen e count (keypad.Digit d) = Took (shown.Plain (keypad.Digit d))
-ended_seen e count (keypad.Hex v) = Took (shown.Plain (keypad.Hex v))
-ended_seen e count keypad.Clear = Took (shown.Plain keypad.Clear)
-ended_seen e count keypad.Backspace = Took (shown.Plain keypad.Backspace)
+abbrev pub terminator_seen : Entry → ℕ → Key → Seen
+terminator_seen e count keypad.Enter = ends_by e count keypad.Enter completion.Enter
+terminator_seen e count keypad.Cancel = Ended (shown.Plain keypad.Cancel) completion.Cancel
+terminator_seen e count keypad.Help = ends_by e count keypad.Help completion.Help
+terminator_seen e count (keypad.Fdk n) = ends_by e count (keypad.Fdk n) (completion.Fdk n)
+terminator_seen e count (keypad.Digit d) = Took (shown.Plain (keypad.Digit d))
+terminator_seen e count (keypad.Hex v) = Took (shown.Plain (keypad.Hex v))
+terminator_seen e count keypad.Clear = Took (shown.Plain keypad.Clear)
+terminator_seen e count keypad.Backspace = Took (shown.Plain keypad.Backspace)
 
 -- digits are shown in data entries alone
 abbrev pub shown_digit : EntryKind → Key → Shown
@@ -146,13 +146,13 @@ digit_seen e count s = if nat_lt count e.greatest then (if e.auto_end && (count 
 
 -- what a key does that is a digit, or none
 abbrev pub value_seen : Entry → Option ℕ → ℕ → Key → Seen
-value_seen e None count k = if has_key e.terminate k then ended_seen e count k else Took (shown.Plain k)
-value_seen e (Some v) count k = digit_seen e count (shown_digit e.sort k)
+value_seen e None count k = if has_key e.terminate k then terminator_seen e count k else Took (shown.Plain k)
+value_seen e (Some v) count k = digit_seen e count (shown_digit e.kind k)
 
 -- what an active key does at this many digits. Of a PIN nothing here depends on a digit
 abbrev pub active_seen : Entry → ℕ → Key → Seen
-active_seen e count k = value_seen e (digit_in e.sort k) count k
+active_seen e count k = value_seen e (digit_in e.kind k) count k
 
 -- an active digit of a PIN
 abbrev pub is_secret : Entry → Key → Bool
-is_secret e k = is_pin e.sort && is_some (digit_in e.sort k) && has_key e.active k
+is_secret e k = is_pin e.kind && is_some (digit_in e.kind k) && has_key e.active k

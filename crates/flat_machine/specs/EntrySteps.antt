@@ -3,8 +3,8 @@ use Rattle.flat_machine.specs.Ciphers.{Ciphers, check_value, packed}
 use Rattle.flat_machine.specs.Entries.{Entry, active_seen, entered, entry_of, entry_refusal, is_key_part, is_pin}
 use Rattle.flat_machine.specs.Requests.{begun, eligible, finished, refused_at_begin, working}
 use Rattle.flat_machine.specs.declared.types.Asked.{Asked}
-use Rattle.flat_machine.specs.Sessions.{executes, holder_of}
-use Rattle.flat_machine.specs.State.{After, Flat, Public, Running, Said, device_refusal, ending_entry, is_off, running, says, still}
+use Rattle.flat_machine.specs.Sessions.{execute_event, holder_of}
+use Rattle.flat_machine.specs.State.{After, Flat, Public, Running, Said, device_refusal, dropping_presses, is_off, running, says, unchanged}
 use Rattle.flat_machine.specs.declared.types.Seen.{Seen}
 use Rattle.flat_machine.specs.declared.types.Seen.TheVariants.{Ended, Ignored, Took}
 use Rattle.key_source.specs.Keys.{has_key}
@@ -26,9 +26,9 @@ use Rattle.pad_steps.specs.declared.commands.EntryKind.TheVariants as entry_kind
 -- an entry starts: nothing is pressed, and what it will fill is empty
 abbrev pub starts : Public → Asked Command → Entry → Said
 starts p a e = record {
-  public = record p { requests = begun (holder_of p.line) p.requests; part = if is_key_part e.sort then [] else p.part };
-  outs = executes p.sessions a.session event.EnterData;
-  drops_pin = is_pin e.sort;
+  public = record p { requests = begun (holder_of p.line) p.requests; part = if is_key_part e.kind then [] else p.part };
+  outs = execute_event p.sessions a.session event.EnterData;
+  drops_pin = is_pin e.kind;
   drops_presses = true;
 }
 
@@ -39,23 +39,23 @@ first_of (Some r) rest = Some r
 
 -- an entry is refused as it begins, or starts
 abbrev pub begin_entry : Public → Asked Command → Entry → Option Refusal → Said
-begin_entry p a e (Some r) = ending_entry true (says (record p { requests = refused_at_begin (reply.No r) (holder_of p.line) p.requests }) (out.Ended a.session a.id (reply.No r)))
+begin_entry p a e (Some r) = dropping_presses true (says (record p { requests = refused_at_begin (reply.No r) (holder_of p.line) p.requests }) (out.Ended a.session a.id (reply.No r)))
 begin_entry p a e None = starts p a e
 
 -- a request comes into work; an entry starts
 abbrev pub begin_as : Public → Asked Command → Option Entry → Said
-begin_as p a None = ending_entry true (still (record p { requests = begun (holder_of p.line) p.requests }))
+begin_as p a None = dropping_presses true (unchanged (record p { requests = begun (holder_of p.line) p.requests }))
 begin_as p a (Some e) = begin_entry p a e (first_of (device_refusal p.device) (entry_refusal e))
 
 -- the request in work, and the eligible one
 abbrev pub begin_with : Public → Option (Asked Command) → Option (Asked Command) → Said
-begin_with p (Some w) other = still p
-begin_with p None None = still p
+begin_with p (Some w) other = unchanged p
+begin_with p None None = unchanged p
 begin_with p None (Some a) = begin_as p a (entry_of a.command)
 
 -- Begin
 abbrev pub next_begin : Public → Said
-next_begin p = if is_off p.device then still p else begin_with p (working p.requests) (eligible (holder_of p.line) p.requests)
+next_begin p = if is_off p.device then unchanged p else begin_with p (working p.requests) (eligible (holder_of p.line) p.requests)
 
 module _ (cipher : Ciphers) where
   -- an empty part has no check value
@@ -70,20 +70,20 @@ module _ (cipher : Ciphers) where
   entry_answer entry_kind.Part v c digits = answer.Part (length digits) c (part_check v digits)
 
   -- the public part after an entry
-  abbrev pub entry_over : Public → Running → Shown → Completion → List ℕ → Public
-  entry_over p w s c digits = record p { requests = finished (reply.Ok (entry_answer w.entry.sort w.entry.check c digits)) p.requests; part = if is_key_part w.entry.sort then digits else p.part }
+  abbrev pub after_entry : Public → Running → Shown → Completion → List ℕ → Public
+  after_entry p w s c digits = record p { requests = finished (reply.Ok (entry_answer w.entry.kind w.entry.check c digits)) p.requests; part = if is_key_part w.entry.kind then digits else p.part }
 
   -- the entry ends with these digits
   abbrev pub ends_entry : Flat → Running → Key → Shown → Completion → List ℕ → After
   ends_entry h w k s c digits = record {
-    state = record { public = entry_over h.public w s c digits; presses = []; held = if is_pin w.entry.sort then digits else h.held };
-    outs = executes h.public.sessions w.session (event.Key s) ++ out.Ended w.session w.id (reply.Ok (entry_answer w.entry.sort w.entry.check c digits)) ∷ [];
+    state = record { public = after_entry h.public w s c digits; presses = []; held = if is_pin w.entry.kind then digits else h.held };
+    outs = execute_event h.public.sessions w.session (event.Key s) ++ out.Ended w.session w.id (reply.Ok (entry_answer w.entry.kind w.entry.check c digits)) ∷ [];
   }
 
   -- what a press does to the state
   abbrev pub press_seen : Flat → Running → Key → Seen → After
   press_seen h w k Ignored = record { state = record h { presses = k ∷ h.presses }; outs = [] }
-  press_seen h w k (Took s) = record { state = record h { presses = k ∷ h.presses }; outs = executes h.public.sessions w.session (event.Key s) }
+  press_seen h w k (Took s) = record { state = record h { presses = k ∷ h.presses }; outs = execute_event h.public.sessions w.session (event.Key s) }
   press_seen h w k (Ended s c) = ends_entry h w k s c (entered w.entry (k ∷ h.presses))
 
   -- a key that is not active does nothing

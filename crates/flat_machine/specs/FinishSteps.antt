@@ -7,8 +7,8 @@ use Rattle.flat_machine.specs.KeyRows.{Change, change_to, erasures, find_key}
 use Rattle.flat_machine.specs.Power.{Loading, Nothing, Plan, Replacing, loads, replaces}
 use Rattle.flat_machine.specs.Requests.{working}
 use Rattle.flat_machine.specs.declared.types.Asked.{Asked}
-use Rattle.flat_machine.specs.Sessions.{serves}
-use Rattle.flat_machine.specs.State.{Public, Said, adding, decided, device_refusal, forgetting, on_device, refuses, replies, still}
+use Rattle.flat_machine.specs.Sessions.{service_events}
+use Rattle.flat_machine.specs.State.{Public, Said, with_outs_after, decided, device_refusal, dropping_pin, on_device, refuses, replies, unchanged}
 use Rattle.flat_machine.specs.Works.{Readied, Setting, Works, decide_pin, pin_answer}
 use Rattle.flat_machine.specs.declared.types.Device.{Device}
 use Rattle.flat_machine.specs.declared.types.Device.TheVariants.{Bad, Off, Ready, Stopped}
@@ -46,11 +46,11 @@ reset_with p a (word.Bad slot) = replies (loads p (word.Bad slot)).public a (dev
 
 -- Finish of Reset
 abbrev pub resets : Public → Asked Command → DiskWord → Said
-resets p a w = forgetting true (reset_with (record p { part = []; maintain = false }) a w)
+resets p a w = dropping_pin true (reset_with (record p { part = []; maintain = false }) a w)
 
 -- Finish of MaintainPin
 abbrev pub maintains : Public → Asked Command → Bool → Said
-maintains p a on = forgetting (not on) (replies (record p { maintain = on }) a (reply.Ok answer.Done))
+maintains p a on = dropping_pin (not on) (replies (record p { maintain = on }) a (reply.Ok answer.Done))
 
 -- an import from the part buffer empties it
 abbrev pub imports : Ciphers → Asked Command → ImportRequest → KeyRow → Public → Said
@@ -58,7 +58,7 @@ imports cipher a r row p = replies (record p { part = if is_part r.source then [
 
 -- what an Init does after its slots are empty
 abbrev pub inits : Asked Command → Public → Said
-inits a p = forgetting true (adding (serves p.sessions event.Initialized) (replies (record p { part = [] }) a (reply.Ok answer.Done)))
+inits a p = dropping_pin true (with_outs_after (service_events p.sessions event.Initialized) (replies (record p { part = [] }) a (reply.Ok answer.Done)))
 
 -- what a DeleteKey does after its slot is empty
 abbrev pub deletes : Asked Command → Public → Said
@@ -94,20 +94,20 @@ abbrev pub pin_now : Works → Public → ℕ → PinRequest → Decided Readied
 pin_now works p count r = on_device (device_refusal p.device) (decide_pin works p.keys count r)
 
 -- a PIN command that gives this answer draws its fill words, and the PIN goes unless it is maintained
-abbrev pub gives : Public → Asked Command → Readied → Answer → Said
-gives p a y x = forgetting (not p.maintain) (replies (record p { drawn = p.drawn + y.draws }) a (reply.Ok x))
+abbrev pub answers_pin : Public → Asked Command → Readied → Answer → Said
+answers_pin p a y x = dropping_pin (not p.maintain) (replies (record p { drawn = p.drawn + y.draws }) a (reply.Ok x))
 
 module _ (set : Setting) where
   -- Finish of a PIN command: refused, or given from the held digits
   abbrev pub finish_pin : Public → List ℕ → Asked Command → PinRequest → Decided Readied → Said
   finish_pin p held a r (Stops why accused) = refuses p a why accused
-  finish_pin p held a r (Goes y) = gives p a y (pin_answer set p.drawn r held y)
+  finish_pin p held a r (Goes y) = answers_pin p a y (pin_answer set p.drawn r held y)
 
   -- what digits have to do with a Finish is their number, and the answer of a PIN command
   abbrev pub finish_by : Public → List ℕ → Asked Command → Command → DiskWord → Said
-  finish_by p held a (command.GetPin rules) w = still p
-  finish_by p held a (command.GetData rules) w = still p
-  finish_by p held a (command.SecureKeyEntry rules) w = still p
+  finish_by p held a (command.GetPin rules) w = unchanged p
+  finish_by p held a (command.GetData rules) w = unchanged p
+  finish_by p held a (command.SecureKeyEntry rules) w = unchanged p
   finish_by p held a (command.MaintainPin on) w = decided p a (maintain_now p on) (maintains p a)
   finish_by p held a (command.Pin r) w = finish_pin p held a r (pin_now set.works p (length held) r)
   finish_by p held a (command.Crypt r) w = decided p a (crypt_now set.cipher p r) (λ x. replies p a (reply.Ok x))
@@ -119,7 +119,7 @@ module _ (set : Setting) where
 
   -- Finish of the request in work, if one is
   abbrev pub finish_with : Public → List ℕ → Option (Asked Command) → DiskWord → Said
-  finish_with p held None w = still p
+  finish_with p held None w = unchanged p
   finish_with p held (Some a) w = finish_by p held a a.command w
 
   -- Finish

@@ -17,12 +17,12 @@ pub record Outcome : Type 0 where
   pub fate : Option Fate
 
 -- an entry of a history
-pub record Entered : Type 0 where
+pub record HistoryEntry : Type 0 where
   pub op : Step
   pub outcome : Outcome
 
 -- the step and the word of an entry
-abbrev pub act_of : Entered → Act
+abbrev pub act_of : HistoryEntry → Act
 act_of e = record { step = e.op; word = e.outcome.word }
 
 module _ (set : Setting) where
@@ -31,12 +31,12 @@ module _ (set : Setting) where
   outcome_of h a = record { word = a.word; outs = (next set h a.step a.word).outs; masked = masked h.public a.step; fate = word_fate h.public a.word }
 
   -- every word fits, and each outcome is the machine's after the entries before it
-  abbrev pub LegalFrom : Flat → List Entered → Type 0
+  abbrev pub LegalFrom : Flat → List HistoryEntry → Type 0
   LegalFrom h [] = Unit {0}
   LegalFrom h (e ∷ es) = IsTrue (fits set h.public e.op e.outcome.word) × (e.outcome ≡ outcome_of h (act_of e)) × LegalFrom (next set h e.op e.outcome.word).state es
 
   -- legal from the opening state
-  abbrev pub Legal : List Entered → Type 0
+  abbrev pub Legal : List HistoryEntry → Type 0
   Legal history = LegalFrom opening history
 
   -- the words fit

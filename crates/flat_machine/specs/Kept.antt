@@ -1,11 +1,11 @@
 -- What the code keeps of a state: digits in the place of presses.
 use Rattle.flat_machine.specs.Entries.{active_seen, after_value, digit_in, entered, is_pin}
-use Rattle.flat_machine.specs.EntrySteps.{entry_answer, entry_over, next_begin}
+use Rattle.flat_machine.specs.EntrySteps.{entry_answer, after_entry, next_begin}
 use Rattle.flat_machine.specs.FinishSteps.{next_finish}
 use Rattle.flat_machine.specs.Machine.{has_pin, next_boot, next_off}
 use Rattle.flat_machine.specs.RequestSteps.{next_ask, next_cancel, next_submit, next_tick}
 use Rattle.flat_machine.specs.SessionSteps.{next_close, next_listen, next_lock, next_open, next_unlock}
-use Rattle.flat_machine.specs.Sessions.{executes}
+use Rattle.flat_machine.specs.Sessions.{execute_event}
 use Rattle.flat_machine.specs.State.{Flat, Public, Running, Said, running}
 use Rattle.flat_machine.specs.Works.{Setting}
 use Rattle.flat_machine.specs.declared.types.Seen.{Seen}
@@ -51,21 +51,21 @@ module _ (set : Setting) where
   -- the entry ends with these digits
   abbrev pub kept_ends : Kept → Running → Shown → Completion → List ℕ → KeptAfter
   kept_ends k w s c digits = record {
-    state = record { public = entry_over set.cipher k.public w s c digits; digits = []; held = if is_pin w.entry.sort then digits else k.held };
-    outs = executes k.public.sessions w.session (event.Key s) ++ out.Ended w.session w.id (reply.Ok (entry_answer set.cipher w.entry.sort w.entry.check c digits)) ∷ [];
+    state = record { public = after_entry set.cipher k.public w s c digits; digits = []; held = if is_pin w.entry.kind then digits else k.held };
+    outs = execute_event k.public.sessions w.session (event.Key s) ++ out.Ended w.session w.id (reply.Ok (entry_answer set.cipher w.entry.kind w.entry.check c digits)) ∷ [];
   }
 
   -- the digits after the key are given
   abbrev pub kept_seen : Kept → Running → List ℕ → Seen → KeptAfter
   kept_seen k w digits Ignored = record { state = record k { digits = digits }; outs = [] }
-  kept_seen k w digits (Took s) = record { state = record k { digits = digits }; outs = executes k.public.sessions w.session (event.Key s) }
+  kept_seen k w digits (Took s) = record { state = record k { digits = digits }; outs = execute_event k.public.sessions w.session (event.Key s) }
   kept_seen k w digits (Ended s c) = kept_ends k w s c digits
 
   -- a press, on what is kept
   abbrev pub kept_press_in : Kept → Option Running → Key → KeptAfter
   kept_press_in k None key = record { state = k; outs = [] }
   kept_press_in k (Some w) key = if has_key w.entry.active key
-      then kept_seen k w (after_value w.entry (digit_in w.entry.sort key) key k.digits) (active_seen w.entry (length k.digits) key)
+      then kept_seen k w (after_value w.entry (digit_in w.entry.kind key) key k.digits) (active_seen w.entry (length k.digits) key)
       else record { state = k; outs = [] }
 
   -- one step on what is kept

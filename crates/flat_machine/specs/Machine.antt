@@ -8,7 +8,7 @@ use Rattle.flat_machine.specs.Requests.{eligible, gone_count, working}
 use Rattle.flat_machine.specs.declared.types.Asked.{Asked}
 use Rattle.flat_machine.specs.SessionSteps.{next_close, next_listen, next_lock, next_open, next_unlock}
 use Rattle.flat_machine.specs.Sessions.{holder_of}
-use Rattle.flat_machine.specs.State.{After, Flat, Public, Running, Said, after_said, device_number, is_off, opening, running, still}
+use Rattle.flat_machine.specs.State.{After, Flat, Public, Running, Said, after_said, device_number, is_off, opening, running, unchanged}
 use Rattle.flat_machine.specs.Works.{Setting}
 use Rattle.key_source.specs.declared.Key.{Key}
 use Rattle.pad_steps.specs.Lines.{Line}
@@ -27,11 +27,11 @@ pub record Act : Type 0 where
 
 -- Off
 abbrev pub next_off : Public → Said
-next_off p = if is_off p.device then still p else powers_off p
+next_off p = if is_off p.device then unchanged p else powers_off p
 
 -- Boot
 abbrev pub next_boot : Public → DiskWord → Said
-next_boot p w = if is_off p.device then loads p w else still p
+next_boot p w = if is_off p.device then loads p w else unchanged p
 
 -- a PIN is held
 abbrev pub has_pin : List ℕ → Bool
@@ -86,12 +86,12 @@ holder_number None = 0
 holder_number (Some s) = s.number
 
 -- yes is 1
-abbrev pub bit : Bool → ℕ
-bit b = if b then 1 else 0
+abbrev pub one_if : Bool → ℕ
+one_if b = if b then 1 else 0
 
 -- device, entry, PIN, work, holder and ended requests as one number
 abbrev pub status : Flat → ℕ
-status h = device_number h.public.device + 4 * bit (is_some (running h.public)) + 8 * bit (has_pin h.held) + 16 * work_number (next_work h.public)
+status h = device_number h.public.device + 4 * one_if (is_some (running h.public)) + 8 * one_if (has_pin h.held) + 16 * work_number (next_work h.public)
     + 64 * holder_number (holder_of h.public.line) + 2048 * gone_count h.public.requests
 
 -- the step as it is printed

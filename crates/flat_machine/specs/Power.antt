@@ -1,7 +1,7 @@
 -- Power, loading, and the device calls of a step.
 use Rattle.flat_machine.specs.KeyRows.{Change, KeyRows, changed, put_row, same_rows}
 use Rattle.flat_machine.specs.declared.types.Asked.{Asked}
-use Rattle.flat_machine.specs.State.{Public, Said, ends, forgetting, replies, still}
+use Rattle.flat_machine.specs.State.{Public, Said, ends, dropping_pin, replies, unchanged}
 use Rattle.flat_machine.specs.declared.types.Device.TheVariants.{Bad, Off, Ready, Stopped}
 use Rattle.pad_steps.specs.declared.commands.Command.{Command}
 use Rattle.pad_steps.specs.declared.steps.DiskWord.{DiskWord}
@@ -14,16 +14,16 @@ use Rattle.pad_steps.specs.declared.steps.Fate.TheVariants as fates
 
 -- what Off and a Cut do: every pending request ends, and entry, PIN and part buffer are gone
 abbrev pub powers_off : Public → Said
-powers_off p = forgetting true (ends (λ a. true) refusal.ConnectionLost (record p { device = Off; part = []; maintain = false }))
+powers_off p = dropping_pin true (ends (λ a. true) refusal.ConnectionLost (record p { device = Off; part = []; maintain = false }))
 
 -- what a loading's word does
 abbrev pub loads : Public → DiskWord → Said
-loads p word.Quiet = still p
-loads p word.Done = still p
-loads p (word.Failed n) = still (record p { device = Stopped })
+loads p word.Quiet = unchanged p
+loads p word.Done = unchanged p
+loads p (word.Failed n) = unchanged (record p { device = Stopped })
 loads p (word.Cut n) = powers_off p
-loads p (word.Loaded rows) = still (record p { device = Ready; keys = rows; doubt = None; loaded = true })
-loads p (word.Bad slot) = still (record p { device = Bad slot })
+loads p (word.Loaded rows) = unchanged (record p { device = Ready; keys = rows; doubt = None; loaded = true })
+loads p (word.Bad slot) = unchanged (record p { device = Bad slot })
 
 -- what the word of a replacing step does: n changes were made before a fault or a cut, and the next is in doubt
 abbrev pub replaces : Public → Asked Command → List Change → (Public → Said) → DiskWord → Said
@@ -35,15 +35,15 @@ replaces p a todo done (word.Loaded rows) = done (record p { keys = changed todo
 replaces p a todo done (word.Bad slot) = done (record p { keys = changed todo p.keys })
 
 -- the loaded rows are the kept ones with the slot in doubt replaced
-abbrev pub doubted : Option Change → KeyRows → KeyRows → Bool
-doubted None rows loaded = false
-doubted (Some c) rows loaded = same_rows loaded (put_row c.slot c.row rows)
+abbrev pub doubt_carried_out : Option Change → KeyRows → KeyRows → Bool
+doubt_carried_out None rows loaded = false
+doubt_carried_out (Some c) rows loaded = same_rows loaded (put_row c.slot c.row rows)
 
 -- how loaded rows compare with the kept ones
 abbrev pub fate_of : Public → KeyRows → Fate
 fate_of p rows = if not p.loaded then fates.First
     else (if same_rows rows p.keys then fates.Old
-    else (if doubted p.doubt p.keys rows then fates.New else fates.Other))
+    else (if doubt_carried_out p.doubt p.keys rows then fates.New else fates.Other))
 
 -- the fate of a word, where it loaded rows
 abbrev pub word_fate : Public → DiskWord → Option Fate

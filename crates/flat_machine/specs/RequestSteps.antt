@@ -3,12 +3,12 @@ use Rattle.flat_machine.specs.Ciphers.{Ciphers, check_value}
 use Rattle.flat_machine.specs.Crypts.{is_decrypt, is_mac}
 use Rattle.flat_machine.specs.Imports.{is_part}
 use Rattle.flat_machine.specs.KeyRows.{find_key, names_of}
-use Rattle.flat_machine.specs.Requests.{Found, Nowhere, Replied, StillPending, look, pending_count, pending_where, same}
+use Rattle.flat_machine.specs.Requests.{Found, Nowhere, Replied, StillPending, look, pending_count, pending_where, same_session}
 use Rattle.flat_machine.specs.declared.types.Asked.{Asked}
 use Rattle.flat_machine.specs.declared.types.Row.TheVariants.{Waiting}
-use Rattle.flat_machine.specs.SessionSteps.{of_open}
+use Rattle.flat_machine.specs.SessionSteps.{if_open}
 use Rattle.flat_machine.specs.Sessions.{floor_of, holder_of, is_open, locked_out}
-use Rattle.flat_machine.specs.State.{Public, Said, device_number, ends, is_off, is_ready, leading, running, says}
+use Rattle.flat_machine.specs.State.{Public, Said, device_number, ends, is_off, is_ready, with_outs_before, running, says}
 use Rattle.flat_machine.specs.Works.{Works}
 use Rattle.flat_machine.specs.declared.types.Device.{Device}
 use Rattle.flat_machine.specs.declared.types.Device.TheVariants.{Bad, Off, Ready, Stopped}
@@ -116,16 +116,16 @@ next_submit works p s limit c = submit_by (submit_refusal works p s c) p s limit
 
 -- id 0 names all requests of the session, another id the one above its floor
 abbrev pub is_canceled : Public → Session → ℕ → Asked Command → Bool
-is_canceled p s id a = same a.session s && ((id == 0) || ((a.id == id) && nat_lt (floor_of s p.sessions) a.id))
+is_canceled p s id a = same_session a.session s && ((id == 0) || ((a.id == id) && nat_lt (floor_of s p.sessions) a.id))
 
 -- the found requests end, or there is none of that id
 abbrev pub cancels : Public → Session → ℕ → List (Asked Command) → Said
 cancels p s id found = if not (id == 0) && (length found == 0) then says p (out.Told s (told.No refusal.InvalidReqId))
-    else leading (out.Told s (told.Canceled (length found)) ∷ []) (ends (is_canceled p s id) refusal.Canceled p)
+    else with_outs_before (out.Told s (told.Canceled (length found)) ∷ []) (ends (is_canceled p s id) refusal.Canceled p)
 
 -- Cancel
 abbrev pub next_cancel : Public → Session → ℕ → Said
-next_cancel p s id = of_open p s (cancels p s id (pending_where (is_canceled p s id) p.requests))
+next_cancel p s id = if_open p s (cancels p s id (pending_where (is_canceled p s id) p.requests))
 
 -- the request has a limit, and was submitted at least that many ticks back
 abbrev pub is_due : ℕ → Asked Command → Bool
@@ -179,4 +179,4 @@ answer_to cipher p pin s (question.Reply id) = told_request id (look s (floor_of
 
 -- Ask
 abbrev pub next_ask : Ciphers → Public → Bool → Session → Question → Said
-next_ask cipher p pin s q = of_open p s (says p (out.Told s (answer_to cipher p pin s q)))
+next_ask cipher p pin s q = if_open p s (says p (out.Told s (answer_to cipher p pin s q)))

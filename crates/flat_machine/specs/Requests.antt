@@ -6,8 +6,8 @@ use Rattle.pad_words.specs.declared.numbers.Session.{Session}
 use Rattle.std.specs.Prelude.{Bool, List, None, Option, Some, [], if◌then◌else◌, length, nat_lt, suc, true, ℕ, ◌&&◌, ◌==◌, ◌∷◌}
 
 -- the two are one session
-abbrev pub same : Session → Session → Bool
-same a b = a.number == b.number
+abbrev pub same_session : Session → Session → Bool
+same_session a b = a.number == b.number
 
 -- the request in work
 abbrev pub working : {C R : Type 0} → List (Row C R) → Option (Asked C)
@@ -19,7 +19,7 @@ working (Gone id s r ∷ rows) = working rows
 -- Begin may take the request: it is of the lock's holder, if there is one
 abbrev pub may_begin : {C : Type 0} → Option Session → Asked C → Bool
 may_begin None a = true
-may_begin (Some holder) a = same a.session holder
+may_begin (Some holder) a = same_session a.session holder
 
 -- the request that Begin takes: the first that waits, among the holder's if there is one
 abbrev pub eligible : {C R : Type 0} → Option Session → List (Row C R) → Option (Asked C)
@@ -66,7 +66,7 @@ ended_where test r (Gone id s q ∷ rows) = Gone id s q ∷ ended_where test r r
 
 -- how many requests of the session are pending
 abbrev pub pending_count : {C R : Type 0} → Session → List (Row C R) → ℕ
-pending_count s rows = length (pending_where (λ a. same a.session s) rows)
+pending_count s rows = length (pending_where (λ a. same_session a.session s) rows)
 
 -- how many requests ended
 abbrev pub gone_count : {C R : Type 0} → List (Row C R) → ℕ
@@ -84,6 +84,6 @@ pub data Found (R : Type 0) : Type 0 where
 -- what the session finds of this id
 abbrev pub look : {C R : Type 0} → Session → ℕ → ℕ → List (Row C R) → Found R
 look s floor id [] = Nowhere
-look s floor id (Waiting a ∷ rows) = if same a.session s && nat_lt floor a.id && (a.id == id) then StillPending else look s floor id rows
-look s floor id (InWork a ∷ rows) = if same a.session s && nat_lt floor a.id && (a.id == id) then StillPending else look s floor id rows
-look s floor id (Gone i t r ∷ rows) = if same t s && nat_lt floor i && (i == id) then Replied r else look s floor id rows
+look s floor id (Waiting a ∷ rows) = if same_session a.session s && nat_lt floor a.id && (a.id == id) then StillPending else look s floor id rows
+look s floor id (InWork a ∷ rows) = if same_session a.session s && nat_lt floor a.id && (a.id == id) then StillPending else look s floor id rows
+look s floor id (Gone i t r ∷ rows) = if same_session t s && nat_lt floor i && (i == id) then Replied r else look s floor id rows

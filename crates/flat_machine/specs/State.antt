@@ -5,7 +5,7 @@ use Rattle.flat_machine.specs.KeyRows.{Change, KeyRows}
 use Rattle.flat_machine.specs.Requests.{ended_where, finished, pending_where, working}
 use Rattle.flat_machine.specs.declared.types.Asked.{Asked}
 use Rattle.flat_machine.specs.declared.types.Row.{Row}
-use Rattle.flat_machine.specs.Sessions.{serves}
+use Rattle.flat_machine.specs.Sessions.{service_events}
 use Rattle.flat_machine.specs.declared.types.Device.{Device}
 use Rattle.flat_machine.specs.declared.types.Device.TheVariants.{Bad, Off, Ready, Stopped}
 use Rattle.flat_machine.specs.declared.types.SessionRow.{SessionRow}
@@ -69,24 +69,24 @@ abbrev pub says : Public → Out → Said
 says p o = said p (o ∷ [])
 
 -- nothing is said
-abbrev pub still : Public → Said
-still p = said p []
+abbrev pub unchanged : Public → Said
+unchanged p = said p []
 
 -- with outs before
-abbrev pub leading : List Out → Said → Said
-leading outs s = record { public = s.public; outs = outs ++ s.outs; drops_pin = s.drops_pin; drops_presses = s.drops_presses }
+abbrev pub with_outs_before : List Out → Said → Said
+with_outs_before outs s = record { public = s.public; outs = outs ++ s.outs; drops_pin = s.drops_pin; drops_presses = s.drops_presses }
 
 -- with the presses forgotten, where the test holds
-abbrev pub ending_entry : Bool → Said → Said
-ending_entry b s = record { public = s.public; outs = s.outs; drops_pin = s.drops_pin; drops_presses = b || s.drops_presses }
+abbrev pub dropping_presses : Bool → Said → Said
+dropping_presses b s = record { public = s.public; outs = s.outs; drops_pin = s.drops_pin; drops_presses = b || s.drops_presses }
 
 -- with the PIN forgotten, where the test holds
-abbrev pub forgetting : Bool → Said → Said
-forgetting b s = record { public = s.public; outs = s.outs; drops_pin = b || s.drops_pin; drops_presses = s.drops_presses }
+abbrev pub dropping_pin : Bool → Said → Said
+dropping_pin b s = record { public = s.public; outs = s.outs; drops_pin = b || s.drops_pin; drops_presses = s.drops_presses }
 
 -- with outs after
-abbrev pub adding : List Out → Said → Said
-adding outs s = record { public = s.public; outs = s.outs ++ outs; drops_pin = s.drops_pin; drops_presses = s.drops_presses }
+abbrev pub with_outs_after : List Out → Said → Said
+with_outs_after outs s = record { public = s.public; outs = s.outs ++ outs; drops_pin = s.drops_pin; drops_presses = s.drops_presses }
 
 -- the state after a step, and what was said
 pub record After : Type 0 where
@@ -104,14 +104,14 @@ pub record Running : Type 0 where
   pub entry : Entry
 
 -- the entry of a request in work
-abbrev pub run_of : Asked Command → Option Entry → Option Running
-run_of a None = None
-run_of a (Some e) = Some (record { id = a.id; session = a.session; entry = e })
+abbrev pub running_by : Asked Command → Option Entry → Option Running
+running_by a None = None
+running_by a (Some e) = Some (record { id = a.id; session = a.session; entry = e })
 
 -- the entry that a request in work has
 abbrev pub running_in : Option (Asked Command) → Option Running
 running_in None = None
-running_in (Some a) = run_of a (entry_of a.command)
+running_in (Some a) = running_by a (entry_of a.command)
 
 -- an entry runs where an entry command is in work
 abbrev pub running : Public → Option Running
@@ -157,20 +157,20 @@ work_ends test (Some a) = test a
 
 -- the pending requests that pass a test end with a refusal, in order of ids
 abbrev pub ends : (Asked Command → Bool) → Refusal → Public → Said
-ends test r p = ending_entry (work_ends test (working p.requests)) (said (record p { requests = ended_where test (reply.No r) p.requests }) (map (λ a. out.Ended a.session a.id (reply.No r)) (pending_where test p.requests)))
+ends test r p = dropping_presses (work_ends test (working p.requests)) (said (record p { requests = ended_where test (reply.No r) p.requests }) (map (λ a. out.Ended a.session a.id (reply.No r)) (pending_where test p.requests)))
 
 -- the request in work has its reply
 abbrev pub replies : Public → Asked Command → Reply → Said
-replies p a r = ending_entry true (says (record p { requests = finished r p.requests }) (out.Ended a.session a.id r))
+replies p a r = dropping_presses true (says (record p { requests = finished r p.requests }) (out.Ended a.session a.id r))
 
 -- service listeners hear of the accused key
 abbrev pub accuses : Public → Option (List ℕ) → Refusal → List Out
 accuses p None r = []
-accuses p (Some name) r = serves p.sessions (event.IllegalKeyAccess name r)
+accuses p (Some name) r = service_events p.sessions (event.IllegalKeyAccess name r)
 
 -- the request in work is refused; service listeners hear of a key that it may not use
 abbrev pub refuses : Public → Asked Command → Refusal → Option (List ℕ) → Said
-refuses p a r accused = adding (accuses p accused r) (replies p a (reply.No r))
+refuses p a r accused = with_outs_after (accuses p accused r) (replies p a (reply.No r))
 
 -- the request in work goes on, or is refused
 abbrev pub decided : {A : Type 0} → Public → Asked Command → Decided A → (A → Said) → Said

@@ -27,9 +27,9 @@ module _ (layout : Layout) where
   put_all b (c ∷ cs) = put_all (layout.put b c.slot c.row) cs
 
   -- the bytes that can be
-  abbrev pub Can : Known → List ℕ → Type 0
-  Can (These b) d = d ≡ b
-  Can (TornFrom b c) d = IsTrue (layout.torn b c.slot c.row d)
+  abbrev pub CanBe : Known → List ℕ → Type 0
+  CanBe (These b) d = d ≡ b
+  CanBe (TornFrom b c) d = IsTrue (layout.torn b c.slot c.row d)
 
   -- a change was struck
   abbrev pub struck_at : List ℕ → Option Change → Known
@@ -58,13 +58,13 @@ module _ (layout : Layout) where
   HoldsStep calls word.Done k rest = rest (known_after calls word.Done k)
   HoldsStep calls (word.Failed n) k rest = rest (known_after calls (word.Failed n) k)
   HoldsStep calls (word.Cut n) k rest = rest (known_after calls (word.Cut n) k)
-  HoldsStep calls (word.Loaded rows) k rest = (e : List ℕ) × Can k e × (layout.rows_of e ≡ Some rows) × rest (These e)
+  HoldsStep calls (word.Loaded rows) k rest = (e : List ℕ) × CanBe k e × (layout.rows_of e ≡ Some rows) × rest (These e)
   HoldsStep calls (word.Bad slot) k rest = rest (known_after calls (word.Bad slot) k)
 
 module _ (layout : Layout) (set : Setting) where
   -- the store can have bytes d after a run from a state in which this was known
   abbrev pub HoldsFrom : Flat → Known → List Act → List ℕ → Type 0
-  HoldsFrom h k [] d = Can layout k d
+  HoldsFrom h k [] d = CanBe layout k d
   HoldsFrom h k (a ∷ acts) d = HoldsStep layout (plan set h.public a.step) a.word k (λ q. HoldsFrom (next set h a.step a.word).state q acts d)
 
   -- c being the bytes that the first loading of the run read
