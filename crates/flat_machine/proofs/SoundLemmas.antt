@@ -9,36 +9,37 @@ use Rattle.flat_machine.specs.Machine.{next}
 use Rattle.flat_machine.specs.Power.{loads, replaces}
 use Rattle.flat_machine.specs.RequestSteps.{command_refusal, is_canceled, is_due, or_locked, submit_by, submit_refusal}
 use Rattle.flat_machine.specs.Requests.{begun, eligible, ended_where, finished, may_begin, pending_count, pending_where, refused_at_begin, same_session, working}
-use Rattle.flat_machine.specs.declared.types.Asked.{Asked}
-use Rattle.flat_machine.specs.declared.types.Row.{Row}
-use Rattle.flat_machine.specs.declared.types.Row.TheVariants.{Gone, InWork, Waiting}
 use Rattle.flat_machine.specs.SessionSteps.{if_open}
 use Rattle.flat_machine.specs.Sessions.{holder_of, holds, is_open, locked_out}
 use Rattle.flat_machine.specs.Sound.{Sound, SubmitsOk, allowed, pending_pass}
-use Rattle.flat_machine.specs.State.{After, Flat, Public, Running, Said, decided, device_refusal, is_off, opening, running, says}
+use Rattle.flat_machine.specs.State.{After, Flat, Public, Running, Said, decided, device_refusal, is_off, opening, ready_opening, running, says}
 use Rattle.flat_machine.specs.Works.{Readied, Setting, Works, pin_answer}
+use Rattle.flat_machine.specs.declared.types.Asked.{Asked}
 use Rattle.flat_machine.specs.declared.types.Device.{Device}
 use Rattle.flat_machine.specs.declared.types.Device.TheVariants.{Bad, Off, Ready, Stopped}
+use Rattle.flat_machine.specs.declared.types.Row.{Row}
+use Rattle.flat_machine.specs.declared.types.Row.TheVariants.{Gone, InWork, Waiting}
 use Rattle.flat_machine.specs.declared.types.Seen.{Seen}
 use Rattle.flat_machine.specs.declared.types.Seen.TheVariants.{Ended, Ignored, Took}
 use Rattle.key_source.specs.Keys.{has_key}
 use Rattle.key_source.specs.declared.Key.{Key}
-use Rattle.pad_steps.specs.declared.commands.Command.{Command}
-use Rattle.pad_steps.specs.declared.steps.DiskWord.{DiskWord}
-use Rattle.pad_steps.specs.declared.commands.PinRequest.{PinRequest}
 use Rattle.pad_steps.specs.declared.answers.Refusal.{Refusal}
 use Rattle.pad_steps.specs.declared.answers.Reply.{Reply}
+use Rattle.pad_steps.specs.declared.answers.Told.{Told}
+use Rattle.pad_steps.specs.declared.commands.Command.{Command}
+use Rattle.pad_steps.specs.declared.commands.PinRequest.{PinRequest}
+use Rattle.pad_steps.specs.declared.steps.DiskWord.{DiskWord}
 use Rattle.pad_steps.specs.declared.steps.Step.{Step}
 use Rattle.pad_words.specs.declared.numbers.Session.{Session}
 use Rattle.std.specs.Prelude.{Bool, IsTrue, List, None, Option, Some, [], cond, false, if◌then◌else◌, length, nat_le, not, refl, true, ℕ, ◌&&◌, ◌++◌, ◌+◌, ◌==◌, ◌∷◌, ◌≡◌}
-use Rattle.pad_steps.specs.declared.answers.Out.TheVariants as out
-use Rattle.pad_steps.specs.declared.answers.Told.TheVariants as told
-use Rattle.pad_steps.specs.declared.answers.Reply.TheVariants as reply
 use Rattle.pad_steps.specs.declared.answers.Answer.TheVariants as answer
+use Rattle.pad_steps.specs.declared.answers.Out.TheVariants as out
 use Rattle.pad_steps.specs.declared.answers.Refusal.TheVariants as refusal
+use Rattle.pad_steps.specs.declared.answers.Reply.TheVariants as reply
+use Rattle.pad_steps.specs.declared.answers.Told.TheVariants as told
 use Rattle.pad_steps.specs.declared.commands.Command.TheVariants as command
-use Rattle.pad_steps.specs.declared.steps.Step.TheVariants as step
 use Rattle.pad_steps.specs.declared.steps.DiskWord.TheVariants as word
+use Rattle.pad_steps.specs.declared.steps.Step.TheVariants as step
 
 and_left : (a b : Bool) → (a && b) ≡ true → a ≡ true
 and_left true b h = refl
@@ -249,3 +250,6 @@ next_sound ok set h step.Boot w good sound = sound_if ok h.public sound (is_off 
 
 pub opening_sound : (ok : Command → Bool) → Sound ok opening.public
 opening_sound ok = refl
+
+pub ready_opening_sound : (ok : Command → Bool) → Sound ok ready_opening.public
+ready_opening_sound ok = refl
