@@ -1,8 +1,15 @@
 pub mod EntryLemmas
+pub mod EntryRuns
+pub mod ExampleTwins
 pub mod HistoryLemmas
 pub mod KeptLemmas
+pub mod KeyRuns
 pub mod LengthLemmas
+pub mod PinRuns
+pub mod PowerRuns
+pub mod QueueRuns
 pub mod RequestLemmas
+pub mod RunWords
 pub mod SoundLemmas
 pub mod TwinLemmas
 pub mod TwinRuns
