@@ -8,7 +8,9 @@ pub mod LengthLemmas
 pub mod PinRuns
 pub mod PowerRuns
 pub mod QueueRuns
+pub mod ReplyLemmas
 pub mod RequestLemmas
+pub mod RequestMoves
 pub mod RunWords
 pub mod SoundLemmas
 pub mod TwinLemmas
