@@ -7,12 +7,15 @@ pub mod KeyRuns
 pub mod LengthLemmas
 pub mod PinRuns
 pub mod PowerRuns
+pub mod PressWalk
 pub mod QueueRuns
 pub mod ReplyLemmas
 pub mod RequestLemmas
 pub mod RequestMoves
+pub mod RequestRuns
 pub mod RunWords
 pub mod SoundLemmas
+pub mod StepWalk
 pub mod TwinLemmas
 pub mod TwinRuns
 pub mod Unwinding
