@@ -14,6 +14,8 @@ pub mod RequestLemmas
 pub mod RequestMoves
 pub mod RequestRuns
 pub mod RunWords
+pub mod SessionLemmas
+pub mod SessionRuns
 pub mod SoundLemmas
 pub mod StepWalk
 pub mod TwinLemmas

@@ -3,5 +3,6 @@
 pub mod kept;
 pub mod requests;
 pub mod runs;
+pub mod sessions;
 pub mod sound;
 pub mod twins;
