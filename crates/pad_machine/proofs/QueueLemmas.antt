@@ -4,7 +4,7 @@ use Rattle.std.proofs.lemmas.List.{drop_more, get_or_default, set_split, take_re
 use Rattle.std.proofs.lemmas.List.Sums.{length-filter}
 use Rattle.std.specs.List.{count_by, list_all}
 use Rattle.std.specs.Prelude.{Bool, IfNone, IfSome, IsTrue, List, None, Option, Some, [], cond, drop, false, filter, if◌then◌else◌, length, refl, suc, take, true, ℕ, ◌&&◌, ◌++◌, ◌+◌, ◌-◌, ◌<◌, ◌∷◌, ◌≡◌, ◌≤◌}
-use Rattle.flat_machine.specs.Requests.{begun, eligible, finished, pending_count, pending_where, same, working}
+use Rattle.flat_machine.specs.Requests.{begun, eligible, finished, pending_count, pending_where, same_session, working}
 use Rattle.flat_machine.specs.Sound.{pending_pass}
 use Rattle.flat_machine.specs.declared.types.Asked.{Asked}
 use Rattle.flat_machine.specs.declared.types.Row.{Row}
@@ -44,8 +44,8 @@ counted false row rows asked requests e = e
 
 length-filter_pending : (session : Session) (rows : List (Row Command Reply)) → length (filter (is_pending_row session) rows) ≡ pending_count session rows
 length-filter_pending session [] = refl
-length-filter_pending session (Waiting asked ∷ rows) = counted (same asked.session session) (Waiting asked) (filter (is_pending_row session) rows) asked (pending_where (λ a. same a.session session) rows) (length-filter_pending session rows)
-length-filter_pending session (InWork asked ∷ rows) = counted (same asked.session session) (InWork asked) (filter (is_pending_row session) rows) asked (pending_where (λ a. same a.session session) rows) (length-filter_pending session rows)
+length-filter_pending session (Waiting asked ∷ rows) = counted (same_session asked.session session) (Waiting asked) (filter (is_pending_row session) rows) asked (pending_where (λ a. same_session a.session session) rows) (length-filter_pending session rows)
+length-filter_pending session (InWork asked ∷ rows) = counted (same_session asked.session session) (InWork asked) (filter (is_pending_row session) rows) asked (pending_where (λ a. same_session a.session session) rows) (length-filter_pending session rows)
 length-filter_pending session (Gone id owner reply ∷ rows) = length-filter_pending session rows
 
 pub count_by-pending : (session : Session) (rows : List (Row Command Reply)) → count_by (is_pending_row session) rows ≡ pending_count session rows

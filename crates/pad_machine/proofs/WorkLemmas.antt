@@ -10,7 +10,7 @@ use Rattle.flat_machine.specs.Machine.{due_finish, due_in, next_work}
 use Rattle.flat_machine.specs.RequestSteps.{submit_by, submit_refusal}
 use Rattle.flat_machine.specs.Requests.{begun, begun_as, eligible, finished, may_begin, refused_at_begin, working}
 use Rattle.flat_machine.specs.Sessions.{holder_of, is_open}
-use Rattle.flat_machine.specs.State.{Public, Running, Said, device_refusal, is_off, running, still}
+use Rattle.flat_machine.specs.State.{Public, Running, Said, device_refusal, is_off, running, unchanged}
 use Rattle.flat_machine.specs.Works.{Setting}
 use Rattle.flat_machine.specs.declared.types.Asked.{Asked}
 use Rattle.flat_machine.specs.declared.types.Row.{Row}
@@ -85,7 +85,7 @@ less-with public (Some asked) waiting found due = absurd (not-begin (entry_of as
 less-with public None None found due = cc
 less-with public None (Some asked) found due = less-as public asked (entry_of asked.command) found
 
-less-begin : (public : Public) (off : Bool) → off ≡ false → next_work public ≡ Some step.Begin → work_left (if off then still public else begin_with public (working public.requests) (eligible (holder_of public.line) public.requests)).public.requests < work_left public.requests
+less-begin : (public : Public) (off : Bool) → off ≡ false → next_work public ≡ Some step.Begin → work_left (if off then unchanged public else begin_with public (working public.requests) (eligible (holder_of public.line) public.requests)).public.requests < work_left public.requests
 less-begin public true on due = cc
 less-begin public false on due = less-with public (working public.requests) (eligible (holder_of public.line) public.requests) refl due
 
@@ -176,7 +176,7 @@ drawn-next kept (step.Lock session) formed = cc
 drawn-next kept (step.Unlock session) formed = cc
 drawn-next kept (step.Submit session limit command) formed = count-submit kept.public session limit command (submit_refusal some_setting.works kept.public session command)
 drawn-next kept (step.Cancel session id) formed = cc
-drawn-next kept step.Begin formed = le-of (count-if (is_off kept.public.device) (still kept.public) (begin_with kept.public (working kept.public.requests) (eligible (holder_of kept.public.line) kept.public.requests)) (length kept.public.requests) refl (count-with kept.public (working kept.public.requests) (eligible (holder_of kept.public.line) kept.public.requests)))
+drawn-next kept step.Begin formed = le-of (count-if (is_off kept.public.device) (unchanged kept.public) (begin_with kept.public (working kept.public.requests) (eligible (holder_of kept.public.line) kept.public.requests)) (length kept.public.requests) refl (count-with kept.public (working kept.public.requests) (eligible (holder_of kept.public.line) kept.public.requests)))
 drawn-next kept step.Finish formed = cc
 drawn-next kept (step.Press key) formed = le-of (count-press kept (running kept.public) key)
 drawn-next kept (step.Tick ticks) formed = cc

@@ -1,5 +1,5 @@
 -- What the code keeps of the requests of a run.
-use Rattle.flat_machine.specs.Requests.{same}
+use Rattle.flat_machine.specs.Requests.{same_session}
 use Rattle.pad_words.specs.declared.numbers.Session.{Session}
 use Rattle.flat_machine.specs.Sound.{pending_pass}
 use Rattle.flat_machine.specs.declared.types.Asked.{Asked}
@@ -19,8 +19,8 @@ is_gone (Gone id session reply) = true
 
 -- the request is pending and of the session
 abbrev pub is_pending_row : {C R : Type 0} → Session → Row C R → Bool
-is_pending_row session (Waiting asked) = same asked.session session
-is_pending_row session (InWork asked) = same asked.session session
+is_pending_row session (Waiting asked) = same_session asked.session session
+is_pending_row session (InWork asked) = same_session asked.session session
 is_pending_row session (Gone id owner reply) = false
 
 -- the row, in work where it waited

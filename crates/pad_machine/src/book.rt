@@ -2,7 +2,7 @@
 ghost use Rattle.std.specs.Prelude.{◌≡◌, ◌<◌, ◌≤◌, ◌+◌, ◌++◌, ◌∷◌, ◌&&◌, ◌==◌, [], OnOk, OnErr, drop, take, length};
 ghost use Rattle.pad_machine.specs.Book.{place_above};
 ghost use Rattle.std.specs.List.{list_any};
-ghost use Rattle.flat_machine.specs.Sessions.{is_open as session_open, with_session, with_classes, listening as row_listening, executes};
+ghost use Rattle.flat_machine.specs.Sessions.{is_open as session_open, with_session, with_classes, listening as row_listening, execute_event};
 
 use flat_machine::types::SessionRow;
 use pad_steps::{Classes, Event, Out, Outs};
@@ -84,7 +84,7 @@ pub fn say(out: &mut Outs, item: Out)
 /// Sends an event of an entry to its session, if it listens, where there is room for it.
 pub fn send(rows: &[SessionRow], session: Session, event: Event, out: &mut Outs)
     requires { 0 < out.old.spare }
-    ensures items { out.new.items ≡ out.old.items ++ executes rows.now session event }
+    ensures items { out.new.items ≡ out.old.items ++ execute_event rows.now session event }
     ensures spare { out.old.spare ≤ out.new.spare + 1 }
 {
     if hears(rows, session) {

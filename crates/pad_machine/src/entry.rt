@@ -1,6 +1,6 @@
 // A running PIN entry: what an active key does to it.
 ghost use Rattle.std.specs.Prelude.{◌≡◌, ◌≤◌, length};
-ghost use Rattle.flat_machine.specs.Entries.{active_seen, after_value, digit_in, entry_by, ends_by, greatest_of, is_secret};
+ghost use Rattle.flat_machine.specs.Entries.{active_seen, after_value, digit_in, entry_by, ends_by, greatest_length, is_secret};
 ghost use Rattle.pad_steps.specs.declared.commands.EntryKind.TheVariants.{Pin};
 
 use crate::digits::PinDigits;
@@ -19,7 +19,7 @@ pub struct RunningEntry {
 
 /// The greatest length: 0 stands for 16.
 fn greatest(rules: &EntryRules) -> usize
-    ensures { result ≡ greatest_of rules.now.max }
+    ensures { result ≡ greatest_length rules.now.max }
 {
     if rules.max == 0 {
         16
@@ -30,7 +30,7 @@ fn greatest(rules: &EntryRules) -> usize
 
 /// The digits after one more active key.
 pub fn take_key(rules: &EntryRules, digits: &mut PinDigits, key: Key)
-    requires { greatest_of rules.now.max ≤ 16 }
+    requires { greatest_length rules.now.max ≤ 16 }
     ensures { digits.new ≡ after_value (entry_by Pin rules.now) (digit_in Pin key) key digits.old }
 {
     match key {

@@ -19,7 +19,8 @@ use crate::book::{enter, is_open, listen, say, send};
 use crate::digits::PinDigits;
 use crate::entry::{RunningEntry, is_secret_key, seen, take_key};
 use crate::queue::Queue;
-use flat_machine::laws::{kept_steps, unwinding};
+use flat_machine::laws::kept::kept_steps;
+use flat_machine::laws::twins::unwinding;
 use flat_machine::types::{Asked, Seen, SessionRow};
 use key_source::Key;
 use pad_steps::{

@@ -4,7 +4,7 @@ ghost use Rattle.std.specs.List.{count_by, list_all};
 ghost use Rattle.std.specs.Option.{option_map};
 ghost use Rattle.flat_machine.specs.Entries.{entry_of as command_entry};
 ghost use Rattle.flat_machine.specs.Sound.{pending_pass};
-ghost use Rattle.flat_machine.specs.State.{run_of, running_in};
+ghost use Rattle.flat_machine.specs.State.{running_by, running_in};
 ghost use Rattle.flat_machine.specs.declared.types.Asked.{Asked};
 ghost use Rattle.flat_machine.specs.Requests.{working, eligible, begun, finished, pending_count};
 ghost use Rattle.flat_machine.specs.declared.types.Row.TheVariants.{Waiting};
@@ -148,7 +148,7 @@ fn running_entry(rows: &[Row<Command, Reply>]) -> Option<RunningEntry>
 // The entry that the request asks for.
 fn entry_of(asked: &Asked<Command>) -> RunningEntry
     requires { IsTrue (is_well_formed_command asked.now.command) }
-    ensures entry { Some (running_of result) ≡ run_of asked.now (command_entry asked.now.command) }
+    ensures entry { Some (running_of result) ≡ running_by asked.now (command_entry asked.now.command) }
     ensures built { IsTrue (is_built_entry result.rules) }
 {
     match &asked.command {
