@@ -3,6 +3,7 @@
 
 pub mod answers;
 pub mod commands;
+pub mod formed;
 pub mod lists;
 pub mod steps;
 
