@@ -108,20 +108,20 @@ pub number_field : (low high : ℕ) → high < 10000000000 → IsField (read_num
 unfolding read_number
 number_field low high small = record {
   takes = λ text n e.
-    let g = guard_some (has_plain_front text && nat_le (length text) 10) (decimal_number text >>= within low high) n e in
-    let b = both_true (has_plain_front text) (nat_le (length text) 10) g.0 in
-    let v = bind_some (decimal_number text) (within low high) n g.1 in
-    let t = onto_takes text 0 v.0 v.1 in
-    let w = within_takes low high v.0 n v.2 in
-    let f = front_takes text b.0 in
-    let is : read_on 0 text ≡ n = t.1 ∙ w.1 in
-    (w.0, sym (ap decimal (sym is) ∙ decimal-digits_value own text t.0 f.0 f.1 (omega (arith, is, w.0))));
+      let g = guard_some (has_plain_front text && nat_le (length text) 10) (decimal_number text >>= within low high) n e in
+      let b = both_true (has_plain_front text) (nat_le (length text) 10) g.0 in
+      let v = bind_some (decimal_number text) (within low high) n g.1 in
+      let t = onto_takes text 0 v.0 v.1 in
+      let w = within_takes low high v.0 n v.2 in
+      let f = front_takes text b.0 in
+      let is : read_on 0 text ≡ n = t.1 ∙ w.1 in
+      (w.0, sym (ap decimal (sym is) ∙ decimal-digits_value own text t.0 f.0 f.1 (omega (arith, is, w.0))));
   again = λ text n h is.
-    let fits : n < 2 ^ 64 = omega (arith, h) in
-    let len : length (decimal n) ≤ 10 = length-decimal-le 10 n (omega arith) (omega (arith, h)) fits in
-    let short : nat_le (length (decimal n)) 10 ≡ true = grind (arith, nat_tests) in
-    let value : decimal_number (decimal n) ≡ Some n = onto_again (decimal n) 0 (digits_decimal own n fits) ∙ ap (λ (m : ℕ). Some m) (digits_value-decimal own n fits) in
-    rw (is, front_decimal n fits, short, value) (within_again low high n h);
+      let fits : n < 2 ^ 64 = omega (arith, h) in
+      let len : length (decimal n) ≤ 10 = length-decimal-le 10 n (omega arith) (omega (arith, h)) fits in
+      let short : nat_le (length (decimal n)) 10 ≡ true = grind (arith, nat_tests) in
+      let value : decimal_number (decimal n) ≡ Some n = onto_again (decimal n) 0 (digits_decimal own n fits) ∙ ap (λ (m : ℕ). Some m) (digits_value-decimal own n fits) in
+      rw (is, front_decimal n fits, short, value) (within_again low high n h);
 }
 
 abbrev pub Always : {A : Type 0} → A → Type 0
@@ -135,9 +135,9 @@ pub session_field : IsField read_session Always session_word
 unfolding read_session
 session_field = record {
   takes = λ text s e.
-    let n = bind_some (read_number 1 16 text) session_of s e in
-    let is : n.0 ≡ s.number = session_number n.0 (nat_lt 0 n.0 && nat_le n.0 16) refl s n.2 in
-    (tt, ((number_field 1 16 (omega arith)).takes text n.0 n.1).1 ∙ ap decimal is);
+      let n = bind_some (read_number 1 16 text) session_of s e in
+      let is : n.0 ≡ s.number = session_number n.0 (nat_lt 0 n.0 && nat_le n.0 16) refl s n.2 in
+      (tt, ((number_field 1 16 (omega arith)).takes text n.0 n.1).1 ∙ ap decimal is);
   again = λ text s h is. rw ((number_field 1 16 (omega arith)).again text s.number (omega (arith, s.valid), s.valid.1) is) (sym (session_some s));
 }
 
@@ -146,7 +146,7 @@ session_field = record {
 -- the value of the first pair with this word
 pub word_cases : {A : Type 0} (text word : List ℕ) (x : A) (more : Option A) (y : A) (P : A → Type 0) → cond (bytes_eq text word) (Some x) more ≡ Some y → (text ≡ word → P x) → (more ≡ Some y → P y) → P y
 word_cases text word x more y P e here else =
-    elim (cases_some (bytes_eq text word) (Some x) more y e) [ | inl a ↦ subst P (some_is x y a.1) (here (same_bytes text word a.0)) | inr b ↦ else b.1 ]
+    elim (cases_some (bytes_eq text word) (Some x) more y e) [ inl a ↦ subst P (some_is x y a.1) (here (same_bytes text word a.0)) | inr b ↦ else b.1 ]
 
 end_again : (b : Bool) → read_end (end_text b) ≡ Some b
 unfolding read_end end_text
@@ -171,11 +171,13 @@ pub classes_field : IsField read_classes Always classes_word
 unfolding read_classes classes_text
 classes_field = record {
   takes = λ text c e.
-    let P : Classes → Type 0 = λ c. text ≡ classes_text c in
-    (tt, word_cases text (codes "none") (record { service = false; execute = false }) _ c P e (λ is. is)
-        (λ e. word_cases text (codes "service") (record { service = true; execute = false }) _ c P e (λ is. is)
-        (λ e. word_cases text (codes "execute") (record { service = false; execute = true }) _ c P e (λ is. is)
-        (λ e. word_cases text (codes "both") (record { service = true; execute = true }) None c P e (λ is. is) (λ e. absurd cc)))));
+      let P : Classes → Type 0 = λ c. text ≡ classes_text c in (
+        tt,
+        word_cases text (codes "none") (record { service = false; execute = false }) _ c P e (λ is. is)
+            (λ e. word_cases text (codes "service") (record { service = true; execute = false }) _ c P e (λ is. is)
+            (λ e. word_cases text (codes "execute") (record { service = false; execute = true }) _ c P e (λ is. is)
+            (λ e. word_cases text (codes "both") (record { service = true; execute = true }) None c P e (λ is. is) (λ e. absurd cc)))),
+      );
   again = λ text c h is. rw is (classes_again c.service c.execute);
 }
 
@@ -202,19 +204,19 @@ unfolding read_figure key_text
 letter_takes c k e =
     elim (cases_some (nat_le 48 c && nat_le c 57) (option_map (λ (d : Digit). keypad.Digit d) (digit_of (c - 48))) _ k e) [
       | inl a ↦
-        let d = mapped_some (digit_of (c - 48)) (λ (d : Digit). keypad.Digit d) k a.1 in
-        let v : c - 48 ≡ d.0.value = digit_number (c - 48) (nat_lt (c - 48) 10) refl d.0 d.1 in
-        let low : 48 ≤ c = grind (arith, nat_tests, both_true (nat_le 48 c) (nat_le c 57) a.0) in
-        let is : c ≡ 48 + d.0.value = omega (arith, v, low) in
-        subst (λ k. KeyFits k × (c ∷ [] ≡ key_text k)) d.2 (tt, ap (λ (c : ℕ). c ∷ []) is)
+          let d = mapped_some (digit_of (c - 48)) (λ (d : Digit). keypad.Digit d) k a.1 in
+          let v : c - 48 ≡ d.0.value = digit_number (c - 48) (nat_lt (c - 48) 10) refl d.0 d.1 in
+          let low : 48 ≤ c = grind (arith, nat_tests, both_true (nat_le 48 c) (nat_le c 57) a.0) in
+          let is : c ≡ 48 + d.0.value = omega (arith, v, low) in
+          subst (λ k. KeyFits k × (c ∷ [] ≡ key_text k)) d.2 (tt, ap (λ (c : ℕ). c ∷ []) is)
       | inr b ↦
-        let g = chosen_some (nat_le 65 c && nat_le c 70) (keypad.Hex (c - 55)) k b.1 in
-        let t = both_true (nat_le 65 c) (nat_le c 70) g.0 in
-        let low : 65 ≤ c = grind (arith, nat_tests, t.0) in
-        let high : c ≤ 70 = grind (arith, nat_tests, t.1) in
-        let is : c ≡ 55 + (c - 55) = omega (arith, low) in
-        let fits : (10 ≤ c - 55) × (c - 55 ≤ 15) = (omega (arith, low), omega (arith, high)) in
-        subst (λ k. KeyFits k × (c ∷ [] ≡ key_text k)) g.1 (fits, ap (λ (c : ℕ). c ∷ []) is ∙ sym (hex_key_text (c - 55) fits))
+          let g = chosen_some (nat_le 65 c && nat_le c 70) (keypad.Hex (c - 55)) k b.1 in
+          let t = both_true (nat_le 65 c) (nat_le c 70) g.0 in
+          let low : 65 ≤ c = grind (arith, nat_tests, t.0) in
+          let high : c ≤ 70 = grind (arith, nat_tests, t.1) in
+          let is : c ≡ 55 + (c - 55) = omega (arith, low) in
+          let fits : (10 ≤ c - 55) × (c - 55 ≤ 15) = (omega (arith, low), omega (arith, high)) in
+          subst (λ k. KeyFits k × (c ∷ [] ≡ key_text k)) g.1 (fits, ap (λ (c : ℕ). c ∷ []) is ∙ sym (hex_key_text (c - 55) fits))
     ]
 
 -- ---- hexadecimal digits
@@ -327,23 +329,23 @@ pub mask_field : IsField read_mask MaskFits mask_word
 unfolding read_mask
 mask_field = record {
   takes = λ text m e.
-    let g = guard_some (eqb (length text) 16) _ m e in
-    let long : length text ≡ 16 = eqb-true (length text) 16 g.0 in
-    let k = bind_some (hex_number (take 8 text)) (λ k. hex_number (drop 8 text) >>= λ f. Some (record { keys = k; fdks = f })) m g.1 in
-    let f = bind_some (hex_number (drop 8 text)) (λ f. Some (record { keys = k.0; fdks = f })) m k.2 in
-    let kt = hex8_takes (take 8 text) k.0 (omega (arith, length-take 8 text)) k.1 in
-    let ft = hex8_takes (drop 8 text) f.0 (omega (arith, length-drop 8 text)) f.1 in
-    let both = digits_join (take 8 text) (drop 8 text) (eight_values k.0) (eight_values f.0) kt.0 ft.0 in
-    let whole : hex_values text ≡ Some (eight_values k.0 ++ eight_values f.0) = ap hex_values (sym (take-append-drop 8 text)) ∙ both in
-    subst (λ m. MaskFits m × (hex_values text ≡ Some (eight_values m.keys ++ eight_values m.fdks))) (some_is _ m f.2) ((kt.1, ft.1), whole);
+      let g = guard_some (eqb (length text) 16) _ m e in
+      let long : length text ≡ 16 = eqb-true (length text) 16 g.0 in
+      let k = bind_some (hex_number (take 8 text)) (λ k. hex_number (drop 8 text) >>= λ f. Some (record { keys = k; fdks = f })) m g.1 in
+      let f = bind_some (hex_number (drop 8 text)) (λ f. Some (record { keys = k.0; fdks = f })) m k.2 in
+      let kt = hex8_takes (take 8 text) k.0 (omega (arith, length-take 8 text)) k.1 in
+      let ft = hex8_takes (drop 8 text) f.0 (omega (arith, length-drop 8 text)) f.1 in
+      let both = digits_join (take 8 text) (drop 8 text) (eight_values k.0) (eight_values f.0) kt.0 ft.0 in
+      let whole : hex_values text ≡ Some (eight_values k.0 ++ eight_values f.0) = ap hex_values (sym (take-append-drop 8 text)) ∙ both in
+      subst (λ m. MaskFits m × (hex_values text ≡ Some (eight_values m.keys ++ eight_values m.fdks))) (some_is _ m f.2) ((kt.1, ft.1), whole);
   again = λ text m fits says.
-    let long : length text ≡ 16 = sym (digits_len text (eight_values m.keys ++ eight_values m.fdks) says) in
-    let s = digits_split (take 8 text) (drop 8 text) (eight_values m.keys ++ eight_values m.fdks) (ap hex_values (take-append-drop 8 text) ∙ says) in
-    let len : length s.0 ≡ 8 = digits_len (take 8 text) s.0 s.2 ∙ omega (arith, length-take 8 text) in
-    let h = halves s.0 s.1 (eight_values m.keys) (eight_values m.fdks) len (sym s.4) in
-    let k = hex8_again (take 8 text) m.keys fits.0 (s.2 ∙ ap (λ (ds : List ℕ). Some ds) h.0) in
-    let f = hex8_again (drop 8 text) m.fdks fits.1 (s.3 ∙ ap (λ (ds : List ℕ). Some ds) h.1) in
-    rw (long, k, f) refl;
+      let long : length text ≡ 16 = sym (digits_len text (eight_values m.keys ++ eight_values m.fdks) says) in
+      let s = digits_split (take 8 text) (drop 8 text) (eight_values m.keys ++ eight_values m.fdks) (ap hex_values (take-append-drop 8 text) ∙ says) in
+      let len : length s.0 ≡ 8 = digits_len (take 8 text) s.0 s.2 ∙ omega (arith, length-take 8 text) in
+      let h = halves s.0 s.1 (eight_values m.keys) (eight_values m.fdks) len (sym s.4) in
+      let k = hex8_again (take 8 text) m.keys fits.0 (s.2 ∙ ap (λ (ds : List ℕ). Some ds) h.0) in
+      let f = hex8_again (drop 8 text) m.fdks fits.1 (s.3 ∙ ap (λ (ds : List ℕ). Some ds) h.1) in
+      rw (long, k, f) refl;
 }
 
 -- ---- keys
@@ -395,18 +397,18 @@ pub key_field : IsField read_key KeyFits key_word
 unfolding read_key
 key_field = record {
   takes = λ text k e.
-    let P : Key → Type 0 = λ k. KeyFits k × (text ≡ key_text k) in
-    let fixed : (word : List ℕ) (k : Key) → KeyFits k → word ≡ key_text k → text ≡ word → P k = λ word k fits w is. (fits, is ∙ w) in
-    elim (cases_some (eqb (length text) 1) (read_figure (slice_index text 0)) _ k e) [
-      | inl a ↦ one_takes text k (eqb-true (length text) 1 a.0) a.1
-      | inr b ↦ word_cases text (codes "enter") keypad.Enter _ k P b.1 (fixed (codes "enter") keypad.Enter tt (unfold key_text in refl))
-    (λ e. word_cases text (codes "cancel") keypad.Cancel _ k P e (fixed (codes "cancel") keypad.Cancel tt (unfold key_text in refl))
-    (λ e. word_cases text (codes "clear") keypad.Clear _ k P e (fixed (codes "clear") keypad.Clear tt (unfold key_text in refl))
-    (λ e. word_cases text (codes "back") keypad.Backspace _ k P e (fixed (codes "back") keypad.Backspace tt (unfold key_text in refl))
-    (λ e. word_cases text (codes "help") keypad.Help _ k P e (fixed (codes "help") keypad.Help tt (unfold key_text in refl))
-    (λ e. let a = guard_some (nat_le 3 (length text) && bytes_eq (take 3 text) (codes "fdk")) _ k e in
-        fdk_takes text k (both_true (nat_le 3 (length text)) _ a.0).1 a.1)))))
-    ];
+      let P : Key → Type 0 = λ k. KeyFits k × (text ≡ key_text k) in
+      let fixed : (word : List ℕ) (k : Key) → KeyFits k → word ≡ key_text k → text ≡ word → P k = λ word k fits w is. (fits, is ∙ w) in
+      elim (cases_some (eqb (length text) 1) (read_figure (slice_index text 0)) _ k e) [
+        | inl a ↦ one_takes text k (eqb-true (length text) 1 a.0) a.1
+        | inr b ↦ word_cases text (codes "enter") keypad.Enter _ k P b.1 (fixed (codes "enter") keypad.Enter tt (unfold key_text in refl))
+            (λ e. word_cases text (codes "cancel") keypad.Cancel _ k P e (fixed (codes "cancel") keypad.Cancel tt (unfold key_text in refl))
+            (λ e. word_cases text (codes "clear") keypad.Clear _ k P e (fixed (codes "clear") keypad.Clear tt (unfold key_text in refl))
+            (λ e. word_cases text (codes "back") keypad.Backspace _ k P e (fixed (codes "back") keypad.Backspace tt (unfold key_text in refl))
+            (λ e. word_cases text (codes "help") keypad.Help _ k P e (fixed (codes "help") keypad.Help tt (unfold key_text in refl))
+            (λ e. let a = guard_some (nat_le 3 (length text) && bytes_eq (take 3 text) (codes "fdk")) _ k e in
+            fdk_takes text k (both_true (nat_le 3 (length text)) _ a.0).1 a.1)))))
+      ];
   again = λ text k fits is. rw is (key_again k fits);
 }
 

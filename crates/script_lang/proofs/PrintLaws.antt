@@ -13,7 +13,7 @@ use Rattle.pad_steps.specs.declared.commands.Command.TheVariants as command
 use Rattle.pad_steps.specs.declared.steps.Step.{Step}
 use Rattle.pad_steps.specs.declared.steps.Step.TheVariants as step
 use Rattle.pad_steps.specs.Formed.{is_scripted}
-use Rattle.script_lang.specs.declared.line.Line.TheVariants.{Do}
+use Rattle.script_lang.specs.declared.kinds.Line.TheVariants.{Do}
 use Rattle.script_lang.specs.Words.{Word, Exact, Digits, IsWord, Says, is_no_space, hex_digit, hex_value, hex_values, word_text, spaced, joined}
 use Rattle.script_lang.specs.Spelling.{number_word, mask_word, end_text, classes_text, key_text, key_word, four_values, eight_values, command_words, step_words, step_text, Spells}
 use Rattle.script_lang.specs.Reading.{line_of}
@@ -66,8 +66,31 @@ digits_print : (ds : List ℕ) → AllByRecursion IsNibble ds → Prints (Digits
 digits_print ds all = (hex_spaceless ds, hex_again ds all)
 
 mask_prints : (m : Mask) → MaskFits m → Prints (mask_word m)
-mask_prints m fits = digits_print (eight_values m.keys ++ eight_values m.fdks) (omega (arith, fits.0), (omega arith, (omega arith, (omega arith, (omega arith, (omega arith, (omega arith, (omega arith,
-    (omega (arith, fits.1), (omega arith, (omega arith, (omega arith, (omega arith, (omega arith, (omega arith, (omega arith, tt))))))))))))))))
+mask_prints m fits = digits_print (eight_values m.keys ++ eight_values m.fdks) (
+  omega (arith, fits.0),
+  (
+    omega arith,
+    (
+      omega arith,
+      (
+        omega arith,
+        (
+          omega arith,
+          (
+            omega arith,
+            (
+              omega arith,
+              (
+                omega arith,
+                (omega (arith, fits.1), (omega arith, (omega arith, (omega arith, (omega arith, (omega arith, (omega arith, (omega arith, tt)))))))),
+              ),
+            ),
+          ),
+        ),
+      ),
+    ),
+  ),
+)
 
 end_prints : (b : Bool) → Prints (Exact (end_text b))
 unfolding end_text

@@ -1,8 +1,8 @@
 -- What `read_line` promises, from what it reads exactly.
 use Rattle.std.proofs.Common.{◌≡◌, ℕ, List, Option, Some, None, Result, Ok, Err, refl, sym, ap, subst, ◌∙◌}
 use Rattle.std.specs.Prelude.{IfOk, OnErr}
-use Rattle.script_lang.specs.declared.line.Line.{Line}
-use Rattle.script_lang.specs.declared.line.Outside.{Outside}
+use Rattle.script_lang.specs.declared.kinds.Line.{Line}
+use Rattle.script_lang.specs.declared.kinds.Outside.{Outside}
 use Rattle.script_lang.specs.Spelling.{Spells}
 use Rattle.script_lang.specs.Reading.{Gives, line_of}
 use Rattle.script_lang.proofs.RowLaws.{some_is}

@@ -98,15 +98,15 @@ pub with_field_reads : {A B : Type 0} (f : List ℕ → Option A) (Fits : A → 
     → IsField f Fits word → ((a : A) → Reads (k a) (S a)) → Reads (with_field f k) (Then Fits word S)
 with_field_reads {A} {B} f Fits word k S field rest = record {
   takes = λ bytes y e.
-    let w = bind_some (next_word bytes) (λ w. f w.0 >>= λ x. k x w.1) y e in
-    let x = bind_some (f w.0.0) (λ x. k x w.0.1) y w.2 in
-    let t = next_word-takes bytes w.0 w.1 in
-    let fit = field.takes w.0.0 x.0 x.1 in
-    (x.0, fit.0, w.0.1, record { text = w.0.0; parts = t.0; spaceless = t.1; spelled = fit.1 }, (rest x.0).takes w.0.1 y x.2);
+      let w = bind_some (next_word bytes) (λ w. f w.0 >>= λ x. k x w.1) y e in
+      let x = bind_some (f w.0.0) (λ x. k x w.0.1) y w.2 in
+      let t = next_word-takes bytes w.0 w.1 in
+      let fit = field.takes w.0.0 x.0 x.1 in
+      (x.0, fit.0, w.0.1, record { text = w.0.0; parts = t.0; spaceless = t.1; spelled = fit.1 }, (rest x.0).takes w.0.1 y x.2);
   again = λ bytes y s.
-    let at : next_word bytes ≡ Some (s.3.text, s.2) = next_word-first bytes (word s.0) s.2 s.3 ((rest s.0).ends s.2 y s.4) in
-    let x : f s.3.text ≡ Some s.0 = field.again s.3.text s.0 s.1 s.3.spelled in
-    ap (λ (o : Option (List ℕ × List ℕ)). o >>= λ w. f w.0 >>= λ x. k x w.1) at ∙ ap (λ (o : Option A). o >>= λ x. k x s.2) x ∙ (rest s.0).again s.2 y s.4;
+      let at : next_word bytes ≡ Some (s.3.text, s.2) = next_word-first bytes (word s.0) s.2 s.3 ((rest s.0).ends s.2 y s.4) in
+      let x : f s.3.text ≡ Some s.0 = field.again s.3.text s.0 s.1 s.3.spelled in
+      ap (λ (o : Option (List ℕ × List ℕ)). o >>= λ w. f w.0 >>= λ x. k x w.1) at ∙ ap (λ (o : Option A). o >>= λ x. k x s.2) x ∙ (rest s.0).again s.2 y s.4;
   ends = λ bytes y s. first_ends bytes (word s.0) s.2 s.3;
 }
 

@@ -15,8 +15,8 @@ use Rattle.pad_steps.specs.declared.commands.Command.TheVariants as command
 use Rattle.pad_steps.specs.declared.steps.Step.{Step}
 use Rattle.pad_steps.specs.declared.steps.Step.TheVariants as step
 use Rattle.pad_steps.specs.Formed.{is_scripted, is_well_formed_command, is_built_entry, is_built_key, is_built_session, is_execute_alone, same_mask, entry_keys, ending_keys}
-use Rattle.script_lang.specs.declared.line.Line.{Line}
-use Rattle.script_lang.specs.declared.line.Line.TheVariants as line
+use Rattle.script_lang.specs.declared.kinds.Line.{Line}
+use Rattle.script_lang.specs.declared.kinds.Line.TheVariants as line
 use Rattle.script_lang.specs.Words.{Word, Exact, Digits, FirstWord, Says}
 use Rattle.script_lang.specs.Spelling.{number_word, session_word, mask_word, end_word, classes_word, key_word, rules_words, command_words, step_words, line_words, is_built, Spells}
 use Rattle.script_lang.specs.Reading.{◌>>=◌, with_field, ended, choose, one_of, read_number, read_session, read_mask, read_end, read_classes, read_key, read_rules, command_rows, read_command, line_rows, next_word, word_len, where_built, line_of}
@@ -95,7 +95,7 @@ rules_takes bytes r e =
     let s = rules_reads.takes bytes r e in
     let t = s.4 in let u = t.4 in let v = u.4 in let w = v.4 in
     subst (λ r. Spelled RulesFit rules_words r bytes) w.4.0
-      ((omega (arith, s.1.1), omega (arith, t.1.1), v.1, w.1), (s.2, s.3, (t.2, t.3, (u.2, u.3, (v.2, v.3, (w.2, w.3, w.4.1))))))
+    ((omega (arith, s.1.1), omega (arith, t.1.1), v.1, w.1), (s.2, s.3, (t.2, t.3, (u.2, u.3, (v.2, v.3, (w.2, w.3, w.4.1))))))
 
 rules_again : (bytes : List ℕ) (r : EntryRules) → RulesFit r → Says bytes (rules_words r) → read_rules bytes ≡ Some r
 rules_again bytes r fits s =
@@ -145,11 +145,21 @@ submit_takes bytes y e =
 
 line_rows_take : AllByRecursion (RowTakes LineFits line_words) line_rows
 line_rows_take = (
-    row_one read_session Always session_word (λ s. line.Do (step.Open s)) LineFits line_words (codes "open") session_field (λ s f. tt) (λ s. refl), (
-    row_two read_session Always session_word read_classes Always classes_word (λ s c. line.Do (step.Listen s c)) LineFits line_words (codes "listen") session_field classes_field (λ s c f g. tt) (λ s c. refl), (
-    submit_takes, (
-    row_one read_key KeyFits key_word (λ k. line.Do (step.Press k)) LineFits line_words (codes "press") key_field (λ k f. f) (λ k. refl), (
-    row_none LineFits line_words (codes "auto") line.Auto tt refl, tt)))))
+  row_one read_session Always session_word (λ s. line.Do (step.Open s)) LineFits line_words (codes "open") session_field (λ s f. tt) (λ s. refl),
+  (
+    row_two read_session Always session_word read_classes Always classes_word (λ s c. line.Do (step.Listen s c)) LineFits line_words (codes "listen") session_field classes_field (λ s c f g. tt) (λ s c. refl),
+    (
+      submit_takes,
+      (
+        row_one read_key KeyFits key_word (λ k. line.Do (step.Press k)) LineFits line_words (codes "press") key_field (λ k f. f) (λ k. refl),
+        (
+          row_none LineFits line_words (codes "auto") line.Auto tt refl,
+          tt,
+        ),
+      ),
+    ),
+  ),
+)
 
 row_again : (l : Line) (bytes : List ℕ) → LineFits l → Says bytes (line_words l) → one_of line_rows bytes ≡ Some l
 row_again line.Auto bytes fits h = one_of_again line_rows (codes "auto") [] bytes h ∙ (ended_reads line.Auto).again h.0 line.Auto (refl, h.2)

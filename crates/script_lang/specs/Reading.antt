@@ -14,8 +14,8 @@ use Rattle.pad_steps.specs.declared.commands.Command.TheVariants as command
 use Rattle.pad_steps.specs.declared.commands.EntryRules.{EntryRules}
 use Rattle.pad_steps.specs.declared.steps.Classes.{Classes}
 use Rattle.pad_steps.specs.declared.steps.Step.TheVariants as step
-use Rattle.script_lang.specs.declared.line.Line.{Line}
-use Rattle.script_lang.specs.declared.line.Line.TheVariants as line
+use Rattle.script_lang.specs.declared.kinds.Line.{Line}
+use Rattle.script_lang.specs.declared.kinds.Line.TheVariants as line
 use Rattle.script_lang.specs.Words.{hex_value, is_no_space}
 use Rattle.script_lang.specs.Spelling.{is_built}
 

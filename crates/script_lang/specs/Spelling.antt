@@ -17,8 +17,8 @@ use Rattle.pad_steps.specs.declared.steps.Question.TheVariants as question
 use Rattle.pad_steps.specs.declared.steps.Step.{Step}
 use Rattle.pad_steps.specs.declared.steps.Step.TheVariants as step
 use Rattle.pad_steps.specs.Formed.{is_scripted}
-use Rattle.script_lang.specs.declared.line.Line.{Line}
-use Rattle.script_lang.specs.declared.line.Line.TheVariants as line
+use Rattle.script_lang.specs.declared.kinds.Line.{Line}
+use Rattle.script_lang.specs.declared.kinds.Line.TheVariants as line
 use Rattle.script_lang.specs.Words.{Word, Exact, Digits, Says, joined}
 
 -- ---- fields
@@ -145,9 +145,9 @@ Spells bytes l = IsTrue (is_built l) × Says (32 ∷ bytes) (line_words l)
 unfoldable pub step_text : Step → List ℕ
 step_text s = joined (step_words s)
 
--- what is shown of a step: nothing of a masked press, since a digit must not be told
-abbrev pub shown_step : Bool → Step → Option Step
-shown_step masked s = if masked then None else Some s
+-- the step, or nothing where it is a press whose key must not be told
+abbrev pub unless_masked : Bool → Step → Option Step
+unless_masked masked s = if masked then None else Some s
 
 -- a step as a line shows it, or a press whose key is masked
 unfoldable pub shown_text : Option Step → List ℕ

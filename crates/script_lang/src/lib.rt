@@ -4,13 +4,13 @@
 mod composing;
 mod cutting;
 mod fields;
+pub mod kinds;
 mod laws;
-pub mod line;
 mod reading;
 pub mod writing;
 
+pub use kinds::{Line, Outside};
 pub use laws::spelled_again;
-pub use line::{Line, Outside};
 pub use reading::read_line;
 pub use writing::write_step;
 

@@ -2,11 +2,11 @@
 ghost use Rattle.std.specs.Prelude.{◌≡◌, IfOk, OnErr};
 ghost use Rattle.script_lang.specs.Reading.{read_rules, read_command, line_rows, choose, line_of, Gives};
 ghost use Rattle.script_lang.specs.Spelling.{is_built, Spells};
-ghost use Rattle.script_lang.specs.declared.line.Line.{Line};
+ghost use Rattle.script_lang.specs.declared.kinds.Line.{Line};
 
 use crate::cutting::{ended, is, next_word, word_len};
 use crate::fields::{read_classes, read_end, read_key, read_mask, read_number, read_session};
-use crate::line::{Line, Outside};
+use crate::kinds::{Line, Outside};
 use pad_steps::{Command, EntryRules, Step};
 
 #[tactic(auto, unfolding(crate::specs::Reading::read_rules))]

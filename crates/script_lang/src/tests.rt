@@ -133,7 +133,14 @@ fn words_are_printed(rt: HostRuntime) -> Result<(), Fail> {
     let digit = Digit::new(7).ok_or("digit")?;
     write_step(alloc, &Step::Press(Key::Digit(digit)), true, &mut text)?;
     writing::write_word("; ", &mut text)?;
-    for key in [Key::Digit(digit), Key::Hex(10), Key::Hex(15), Key::Help, Key::Fdk(1), Key::Fdk(32)] {
+    for key in [
+        Key::Digit(digit),
+        Key::Hex(10),
+        Key::Hex(15),
+        Key::Help,
+        Key::Fdk(1),
+        Key::Fdk(32),
+    ] {
         writing::write_key(alloc, key, &mut text)?;
         writing::write_word(" ", &mut text)?;
     }

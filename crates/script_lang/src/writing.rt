@@ -2,7 +2,7 @@
 ghost use Rattle.std.specs.Prelude.{◌≡◌, ◌++◌, OnOk, OnErr, IsTrue, codes};
 ghost use Rattle.std.specs.Fmt.{decimal};
 ghost use Rattle.pad_steps.specs.Formed.{is_well_formed};
-ghost use Rattle.script_lang.specs.Spelling.{key_text, classes_text, shown_step, shown_text};
+ghost use Rattle.script_lang.specs.Spelling.{key_text, classes_text, unless_masked, shown_text};
 
 use crate::composing::put_step;
 use key_source::Key;
@@ -82,7 +82,7 @@ pub fn write_step(
     text: &mut Octets,
 ) -> Result<(), NoMemory>
     requires { IsTrue (is_well_formed step.now) }
-    ensures ok { OnOk result (text.new ≡ text.old ++ shown_text (shown_step masked step.now)) }
+    ensures ok { OnOk result (text.new ≡ text.old ++ shown_text (unless_masked masked step.now)) }
     ensures err { OnErr result (text.new ≡ text.old) }
 {
     if masked {

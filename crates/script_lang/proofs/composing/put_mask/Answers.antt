@@ -14,6 +14,6 @@ returns c =
     let r : List ℕ = map hex_digit (four_values (m.fdks / 65536)) in
     let t : List ℕ = map hex_digit (four_values (m.fdks % 65536)) in
     then_put old c.put_four_digits-3.new.text c.put_four_digits-4.new.text (space ++ (p ++ (q ++ r))) t
-        (then_put old c.put_four_digits-2.new.text c.put_four_digits-3.new.text (space ++ (p ++ q)) r
-        (then_put old c.put_four_digits.new.text c.put_four_digits-2.new.text (space ++ p) q
-        (then_put old c.push.new.self c.put_four_digits.new.text space p c.in_ok-push.ensures.ok c.in_ok-put_four_digits.ensures) c.in_ok-put_four_digits-2.ensures) c.in_ok-put_four_digits-3.ensures) c.in_ok-put_four_digits-4.ensures
+    (then_put old c.put_four_digits-2.new.text c.put_four_digits-3.new.text (space ++ (p ++ q)) r
+    (then_put old c.put_four_digits.new.text c.put_four_digits-2.new.text (space ++ p) q
+    (then_put old c.push.new.self c.put_four_digits.new.text space p c.in_ok-push.ensures.ok c.in_ok-put_four_digits.ensures) c.in_ok-put_four_digits-2.ensures) c.in_ok-put_four_digits-3.ensures) c.in_ok-put_four_digits-4.ensures
