@@ -4,6 +4,7 @@
 pub mod answers;
 pub mod commands;
 mod copies;
+pub mod formed;
 pub mod lists;
 pub mod steps;
 

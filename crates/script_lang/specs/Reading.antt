@@ -1,0 +1,160 @@
+-- A line read from left to right, word by word.
+use Rattle.std.specs.Prelude.{Bool, List, None, Ok, Err, Option, Result, Some, [], bytes_eq, codes, drop, false, if◌then◌else◌, length, nat_le, not, slice_index, take, true, ℕ, ◌&&◌, ◌*◌, ◌+◌, ◌-◌, ◌==◌, ◌≡◌, ◌∷◌}
+use Rattle.std.specs.Option.{option_map}
+use Rattle.std.specs.List.{prefix_len}
+use denote.Ref.{Bor}
+use Rattle.pad_words.specs.declared.numbers.Session.{Session}
+use Rattle.pad_words.specs.declared.numbers.Digit.{Digit}
+use Rattle.pad_words.specs.Numbers.{session_of, digit_of}
+use Rattle.key_source.specs.declared.Key.{Key}
+use Rattle.key_source.specs.declared.Key.TheVariants as keypad
+use Rattle.key_source.specs.declared.Mask.{Mask}
+use Rattle.pad_steps.specs.declared.commands.Command.{Command}
+use Rattle.pad_steps.specs.declared.commands.Command.TheVariants as command
+use Rattle.pad_steps.specs.declared.commands.EntryRules.{EntryRules}
+use Rattle.pad_steps.specs.declared.steps.Classes.{Classes}
+use Rattle.pad_steps.specs.declared.steps.Step.TheVariants as step
+use Rattle.script_lang.specs.declared.kinds.Line.{Line}
+use Rattle.script_lang.specs.declared.kinds.Line.TheVariants as line
+use Rattle.script_lang.specs.Words.{hex_value, is_no_space}
+use Rattle.script_lang.specs.Spelling.{is_built}
+
+infixl 10 ◌>>=◌
+abbrev pub ◌>>=◌ : {A B : Type 0} → Option A → (A → Option B) → Option B
+(Some x) >>= f = f x
+None >>= f = None
+
+-- ---- words
+
+-- how many bytes stand before the first space
+abbrev pub word_len : List ℕ → ℕ
+word_len text = prefix_len is_no_space text
+
+-- the word behind a space, and the bytes after it
+unfoldable pub next_word : List ℕ → Option (List ℕ × List ℕ)
+next_word [] = None
+next_word (b ∷ bs) = if b == 32 then Some (take (word_len bs) bs, drop (word_len bs) bs) else None
+
+-- the next word as a field, and what is read after it
+abbrev pub with_field : {A B : Type 0} → (List ℕ → Option A) → (A → List ℕ → Option B) → List ℕ → Option B
+with_field field after bytes = next_word bytes >>= λ w. field w.0 >>= λ x. after x w.1
+
+-- the value, where no byte is left
+abbrev pub ended : {A : Type 0} → A → List ℕ → Option A
+ended x bytes = if length bytes == 0 then Some x else None
+
+-- what the row of this first word reads
+abbrev pub choose : {B : Type 0} → List (List ℕ × (List ℕ → Option B)) → List ℕ → List ℕ → Option B
+choose [] verb bytes = None
+choose (row ∷ rows) verb bytes = if bytes_eq verb row.0 then row.1 bytes else choose rows verb bytes
+
+-- what the row of the next word reads
+abbrev pub one_of : {B : Type 0} → List (List ℕ × (List ℕ → Option B)) → List ℕ → Option B
+one_of rows bytes = next_word bytes >>= λ w. choose rows w.0 w.1
+
+-- ---- fields
+
+-- the value of a decimal digit
+abbrev pub decimal_value : ℕ → Option ℕ
+decimal_value c = if nat_le 48 c && nat_le c 57 then Some (c - 48) else None
+
+-- the number of digits to this base that stand behind the digits of n
+unfoldable pub digits_onto : ℕ → (ℕ → Option ℕ) → ℕ → List ℕ → Option ℕ
+digits_onto base value n [] = Some n
+digits_onto base value n (c ∷ cs) = value c >>= λ v. digits_onto base value (base * n + v) cs
+
+-- the number of decimal digits
+abbrev pub decimal_number : List ℕ → Option ℕ
+decimal_number = digits_onto 10 decimal_value 0
+
+-- the number of hexadecimal digits
+abbrev pub hex_number : List ℕ → Option ℕ
+hex_number = digits_onto 16 hex_value 0
+
+-- there is a first digit, and it is no leading zero
+unfoldable pub has_plain_front : List ℕ → Bool
+has_plain_front [] = false
+has_plain_front (c ∷ []) = true
+has_plain_front (c ∷ d ∷ cs) = not (c == 48)
+
+abbrev pub within : ℕ → ℕ → ℕ → Option ℕ
+within low high n = if nat_le low n && nat_le n high then Some n else None
+
+-- a number from low to high
+unfoldable pub read_number : ℕ → ℕ → List ℕ → Option ℕ
+read_number low high word = if has_plain_front word && nat_le (length word) 10 then decimal_number word >>= within low high else None
+
+-- a session's number, 1 to 16
+unfoldable pub read_session : List ℕ → Option Session
+read_session word = read_number 1 16 word >>= session_of
+
+-- sixteen hexadecimal digits
+unfoldable pub read_mask : List ℕ → Option Mask
+read_mask word = if length word == 16 then (hex_number (take 8 word) >>= λ k. hex_number (drop 8 word) >>= λ f. Some (record { keys = k; fdks = f })) else None
+
+unfoldable pub read_end : List ℕ → Option Bool
+read_end word = if bytes_eq word (codes "auto") then Some true else if bytes_eq word (codes "hold") then Some false else None
+
+unfoldable pub read_classes : List ℕ → Option Classes
+read_classes word = if bytes_eq word (codes "none") then Some (record { service = false; execute = false })
+    else if bytes_eq word (codes "service") then Some (record { service = true; execute = false })
+    else if bytes_eq word (codes "execute") then Some (record { service = false; execute = true })
+    else if bytes_eq word (codes "both") then Some (record { service = true; execute = true })
+    else None
+
+-- the key of one byte: a digit, or A to F
+unfoldable pub read_figure : ℕ → Option Key
+read_figure c = if nat_le 48 c && nat_le c 57 then option_map (λ (d : Digit). keypad.Digit d) (digit_of (c - 48))
+    else if nat_le 65 c && nat_le c 70 then Some (keypad.Hex (c - 55))
+    else None
+
+unfoldable pub read_key : List ℕ → Option Key
+read_key word = if length word == 1 then read_figure (slice_index word 0)
+    else if bytes_eq word (codes "enter") then Some keypad.Enter
+    else if bytes_eq word (codes "cancel") then Some keypad.Cancel
+    else if bytes_eq word (codes "clear") then Some keypad.Clear
+    else if bytes_eq word (codes "back") then Some keypad.Backspace
+    else if bytes_eq word (codes "help") then Some keypad.Help
+    else if nat_le 3 (length word) && bytes_eq (take 3 word) (codes "fdk") then option_map (λ (n : ℕ). keypad.Fdk n) (read_number 1 32 (drop 3 word))
+    else None
+
+-- ---- rows
+
+unfoldable pub read_rules : List ℕ → Option EntryRules
+read_rules = with_field (read_number 0 255) (λ min. with_field (read_number 0 255) (λ max. with_field read_end (λ e. with_field read_mask (λ a. with_field read_mask (λ t.
+    ended (record { min = min; max = max; auto_end = e; active = a; terminate = t }))))))
+
+-- a command by its first word
+abbrev pub command_rows : List (List ℕ × (List ℕ → Option Command))
+command_rows =
+    (codes "getpin", λ bytes. option_map (λ (rules : EntryRules). command.GetPin rules) (read_rules bytes)) ∷ []
+
+unfoldable pub read_command : List ℕ → Option Command
+read_command = one_of command_rows
+
+-- a line by its first word
+abbrev pub line_rows : List (List ℕ × (List ℕ → Option Line))
+line_rows =
+    (codes "open", with_field read_session (λ s. ended (line.Do (step.Open s)))) ∷
+    (codes "listen", with_field read_session (λ s. with_field read_classes (λ c. ended (line.Do (step.Listen s c))))) ∷
+    (codes "submit", with_field read_session (λ s. with_field (read_number 0 1000000) (λ limit bytes. option_map (λ (c : Command). line.Do (step.Submit s limit c)) (read_command bytes)))) ∷
+    (codes "press", with_field read_key (λ k. ended (line.Do (step.Press k)))) ∷
+    (codes "auto", ended line.Auto) ∷ []
+
+-- the line, if it is built
+abbrev pub where_built : Line → Option Line
+where_built l = if is_built l then Some l else None
+
+-- the line that these bytes spell, if there is one
+unfoldable pub line_of : List ℕ → Option Line
+line_of bytes = choose line_rows (take (word_len bytes) bytes) (drop (word_len bytes) bytes) >>= where_built
+
+-- a word and the rest that were found, without where they lie
+abbrev pub IsNextWord : Option (Bor (List ℕ) × Bor (List ℕ)) → Option (List ℕ × List ℕ) → Type 0
+IsNextWord None read = read ≡ None
+IsNextWord (Some x) read = read ≡ Some (x.0.now, x.1.now)
+
+-- a value that was read is the reading, and a refusal is that there is none
+abbrev pub Gives : {X E : Type 0} → Result X E → Option X → Type 0
+Gives (Ok x) read = read ≡ Some x
+Gives (Err e) read = read ≡ None

@@ -1,0 +1,185 @@
+//! The values of words.
+ghost use Rattle.std.specs.Prelude.{◌≡◌, ◌≤◌, ◌<◌, ◌^◌, length, IfSome};
+ghost use Rattle.script_lang.specs.Words.{hex_value};
+ghost use Rattle.script_lang.specs.Reading.{decimal_value, decimal_number, has_plain_front, hex_number, read_number, read_session, read_mask, read_end, read_classes, read_figure, read_key};
+
+use crate::cutting::is;
+use key_source::{Key, Mask};
+use pad_steps::Classes;
+use pad_words::{Digit, Session};
+
+// the value of a decimal digit
+fn decimal_value(c: u8) -> Option<u8>
+    ensures value { result ≡ decimal_value c }
+    ensures small { IfSome result (λ v. v < 10) }
+{
+    match c {
+        b'0'..=b'9' => Some(c - b'0'),
+        _ => None,
+    }
+}
+
+// the number of at most ten decimal digits
+fn decimal_number(word: &[u8]) -> Option<u64>
+    requires { length word.now ≤ 10 }
+    ensures { result ≡ decimal_number word.now }
+{
+    let mut n = 0u64;
+    for &c in word {
+        let digit = decimal_value(c)?;
+        n = 10 * n + u64::from(digit);
+    }
+    Some(n)
+}
+
+// there is a first digit, and it is no leading zero
+#[tactic(auto, unfolding(crate::specs::Reading::has_plain_front))]
+fn has_plain_front(word: &[u8]) -> bool
+    ensures { result ≡ has_plain_front word.now }
+{
+    match word {
+        [] => false,
+        [_] => true,
+        [first, _, ..] => *first != b'0',
+    }
+}
+
+// a number from low to high, without a leading zero
+#[tactic(auto, unfolding(crate::specs::Reading::read_number))]
+pub fn read_number(low: u32, high: u32, word: &[u8]) -> Option<u32>
+    ensures exact { result ≡ read_number low high word.now }
+    ensures range { IfSome result (λ n. (low ≤ n) × (n ≤ high)) }
+{
+    if has_plain_front(word) && word.len() <= 10 {
+        let n = decimal_number(word)?;
+        if u64::from(low) <= n && n <= u64::from(high) {
+            Some(n as u32)
+        } else {
+            None
+        }
+    } else {
+        None
+    }
+}
+
+// a session, 1 to 16
+#[tactic(auto, unfolding(crate::specs::Reading::read_session))]
+pub fn read_session(word: &[u8]) -> Option<Session>
+    ensures { result ≡ read_session word.now }
+{
+    let n = read_number(1, 16, word)?;
+    Session::new(n as u8)
+}
+
+// the value of a hexadecimal digit in upper case
+fn hex_value(c: u8) -> Option<u8>
+    ensures value { result ≡ hex_value c }
+    ensures small { IfSome result (λ v. v < 16) }
+{
+    match c {
+        b'0'..=b'9' => Some(c - b'0'),
+        b'A'..=b'F' => Some(c - b'A' + 10),
+        _ => None,
+    }
+}
+
+// the number of at most eight hexadecimal digits
+fn hex_number(word: &[u8]) -> Option<u32>
+    requires { length word.now ≤ 8 }
+    ensures value { result ≡ hex_number word.now }
+    ensures small { IfSome result (λ n. n < 16 ^ length word.now) }
+{
+    let mut n = 0u64;
+    for &c in word {
+        let digit = hex_value(c)?;
+        n = 16 * n + u64::from(digit);
+    }
+    Some(n as u32)
+}
+
+// sixteen hexadecimal digits: the key bits, and then the bits of the function keys
+#[tactic(auto, unfolding(crate::specs::Reading::read_mask))]
+pub fn read_mask(word: &[u8]) -> Option<Mask>
+    ensures { result ≡ read_mask word.now }
+{
+    if word.len() == 16 {
+        let keys = hex_number(&word[..8])?;
+        let fdks = hex_number(&word[8..])?;
+        Some(Mask { keys, fdks })
+    } else {
+        None
+    }
+}
+
+// whether an entry ends by itself at its greatest length
+#[tactic(auto, unfolding(crate::specs::Reading::read_end))]
+pub fn read_end(word: &[u8]) -> Option<bool>
+    ensures { result ≡ read_end word.now }
+{
+    if is(word, "auto") {
+        Some(true)
+    } else if is(word, "hold") {
+        Some(false)
+    } else {
+        None
+    }
+}
+
+// the classes of events that a session hears
+#[tactic(auto, unfolding(crate::specs::Reading::read_classes))]
+pub fn read_classes(word: &[u8]) -> Option<Classes>
+    ensures { result ≡ read_classes word.now }
+{
+    let (service, execute) = if is(word, "none") {
+        (false, false)
+    } else if is(word, "service") {
+        (true, false)
+    } else if is(word, "execute") {
+        (false, true)
+    } else if is(word, "both") {
+        (true, true)
+    } else {
+        return None;
+    };
+    Some(Classes { service, execute })
+}
+
+// the key of one byte: a digit, or A to F
+#[tactic(auto, unfolding(crate::specs::Reading::read_figure))]
+fn read_figure(c: u8) -> Option<Key>
+    ensures { result ≡ read_figure c }
+{
+    match c {
+        b'0'..=b'9' => {
+            let digit = Digit::new(c - b'0')?;
+            Some(Key::Digit(digit))
+        }
+        b'A'..=b'F' => Some(Key::Hex(c - b'A' + 10)),
+        _ => None,
+    }
+}
+
+// a key by its word
+#[tactic(auto, unfolding(crate::specs::Reading::read_key))]
+pub fn read_key(word: &[u8]) -> Option<Key>
+    ensures { result ≡ read_key word.now }
+{
+    if word.len() == 1 {
+        read_figure(word[0])
+    } else if is(word, "enter") {
+        Some(Key::Enter)
+    } else if is(word, "cancel") {
+        Some(Key::Cancel)
+    } else if is(word, "clear") {
+        Some(Key::Clear)
+    } else if is(word, "back") {
+        Some(Key::Backspace)
+    } else if is(word, "help") {
+        Some(Key::Help)
+    } else if word.len() >= 3 && is(&word[..3], "fdk") {
+        let n = read_number(1, 32, &word[3..])?;
+        Some(Key::Fdk(n as u8))
+    } else {
+        None
+    }
+}

@@ -1,0 +1,15 @@
+//! What a line of a script says.
+use pad_steps::Step;
+
+/// A line of a script.
+#[derive(Drop)]
+pub enum Line {
+    /// The steps that are due, one after the other, until none is.
+    Auto,
+    /// One step.
+    Do(Step),
+}
+
+/// The bytes are no line of the script's grammar.
+#[derive(Clone, Copy, Debug, PartialEq, Eq)]
+pub struct Outside;
