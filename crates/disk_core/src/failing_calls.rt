@@ -7,7 +7,7 @@ use std::marker::Model;
 /// At most 32 numbers of calls, counted from 1: the calls that are to fail.
 #[derive(Drop)]
 pub struct Calls {
-    numbers: ArrayVec<u64, 32>,
+    numbers: ArrayVec<u32, 32>,
 }
 
 impl Model for Calls {
@@ -20,7 +20,7 @@ impl Model for Calls {
 
 impl Calls {
     /// These numbers of calls. None above 32 of them.
-    pub fn of(numbers: &[u64]) -> Option<Calls>
+    pub fn of(numbers: &[u32]) -> Option<Calls>
         ensures few { IsSome result ↔ (length numbers.now ≤ 32) }
         ensures value { IfSome result (λ c. c ≡ numbers.now) }
     {
@@ -34,6 +34,9 @@ impl Calls {
     pub fn has(&self, number: u64) -> bool
         ensures { IsTrue result ↔ Contains self.now number }
     {
-        self.numbers.as_slice().contains(&number)
+        self.numbers
+            .as_slice()
+            .iter()
+            .any(|&known| u64::from(known) == number)
     }
 }

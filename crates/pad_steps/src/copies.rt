@@ -104,7 +104,10 @@ impl ImportSource {
         ensures { IfOk result (λ source. source ≡ self.now) }
     {
         match self {
-            ImportSource::Clear(value) => Ok(ImportSource::Clear(Octets::copy(alloc, value.items())?)),
+            ImportSource::Clear(value) => Ok(ImportSource::Clear(Octets::copy(
+                alloc,
+                value.items(),
+            )?)),
             ImportSource::Sealed(name, value) => {
                 let value = Octets::copy(alloc, value.items())?;
                 Ok(ImportSource::Sealed(name.copy(), value))

@@ -1,5 +1,5 @@
 //! Lists of rows, of names, of what is said, and of the disk's words.
-ghost use Rattle.std.specs.Prelude.{◌≡◌, ◌≤◌, ◌<◌, ◌+◌, ◌++◌, ◌∷◌, [], OnOk, OnErr, IfOk, IsOk};
+ghost use Rattle.std.specs.Prelude.{◌≡◌, ◌≤◌, ◌<◌, ◌+◌, ◌++◌, ◌∷◌, [], All, OnOk, OnErr, IfOk, IsOk};
 
 use crate::answers::Out;
 use crate::steps::DiskWord;
@@ -23,6 +23,36 @@ impl Model for Rows {
     ghost view = { λ r. r.list.items };
 }
 
+impl Rows {
+    /// No rows. It takes no memory.
+    pub fn empty(alloc: Global) -> Rows
+        ensures { result ≡ [] }
+    {
+        Rows {
+            list: Vec::new(alloc),
+        }
+    }
+
+    /// The rows in order, each behind its slot.
+    pub fn items(&self) -> &[(u8, KeyRow)]
+        ensures { result.now ≡ self.now }
+    {
+        self.list.as_slice()
+    }
+
+    /// Puts a row last, whose slot is above the others. After want of memory the list is as before.
+    pub fn push(&mut self, item: (u8, KeyRow)) -> Result<(), NoMemory>
+        requires { All (λ row. row.0 < item.0) self.old }
+        ensures ok { OnOk result (self.new ≡ self.old ++ item ∷ []) }
+        ensures err { OnErr result (self.new ≡ self.old) }
+    {
+        match self.list.push(item) {
+            Ok(()) => Ok(()),
+            Err(_) => Err(NoMemory),
+        }
+    }
+}
+
 /// Names of keys.
 #[derive(Drop)]
 pub struct Names {
@@ -35,6 +65,35 @@ impl Model for Names {
     ghost Value = { List (List ℕ) };
 
     ghost view = { λ n. n.list.items };
+}
+
+impl Names {
+    /// No names. It takes no memory.
+    pub fn empty(alloc: Global) -> Names
+        ensures { result ≡ [] }
+    {
+        Names {
+            list: Vec::new(alloc),
+        }
+    }
+
+    /// The names in order.
+    pub fn items(&self) -> &[KeyName]
+        ensures { result.now ≡ self.now }
+    {
+        self.list.as_slice()
+    }
+
+    /// Puts a name last. After want of memory the list is as before.
+    pub fn push(&mut self, item: KeyName) -> Result<(), NoMemory>
+        ensures ok { OnOk result (self.new ≡ self.old ++ item ∷ []) }
+        ensures err { OnErr result (self.new ≡ self.old) }
+    {
+        match self.list.push(item) {
+            Ok(()) => Ok(()),
+            Err(_) => Err(NoMemory),
+        }
+    }
 }
 
 /// What a step says, in order, and how many more outs it takes without memory.

@@ -1,5 +1,6 @@
 //! Bytes and half bytes: a list of bytes, a block of eight, a list of nibbles.
-ghost use Rattle.std.specs.Prelude.{◌≡◌, ◌++◌, ◌∷◌, [], OnOk, OnErr, IfOk};
+ghost use Rattle.std.specs.Prelude.{◌≡◌, ◌<◌, ◌≤◌, ◌↔◌, ◌++◌, ◌∷◌, [], length, All, IsTrue, OnOk, OnErr, IfOk};
+ghost use Rattle.std.specs.Bool.{OnTrue, OnFalse};
 
 use crate::NoMemory;
 use arrayvec::ArrayVec;
@@ -88,14 +89,47 @@ pub struct Nibbles {
 }
 
 impl Model for Nibbles {
-    ghost use Rattle.std.specs.Prelude.{ℕ, List};
+    ghost use Rattle.std.specs.Prelude.{ℕ, ◌<◌, List, All};
 
     ghost Value = { List ℕ };
 
     ghost view = { λ n. n.values.items };
+
+    ghost invariant = { λ n. All (λ v. v < 16) n.values.items };
 }
 
 impl Nibbles {
+    /// No values.
+    pub fn empty() -> Nibbles
+        ensures { result ≡ [] }
+    {
+        Nibbles {
+            values: ArrayVec::new(),
+        }
+    }
+
+    /// The values in order: at most 48, each of 0 to 15.
+    pub fn items(&self) -> &[u8]
+        ensures items { result.now ≡ self.now }
+        ensures small { All (λ v. v < 16) result.now }
+        ensures few { length result.now ≤ 48 }
+    {
+        self.values.as_slice()
+    }
+
+    /// Puts a value last. False, with nothing put, where 48 are there or the value is above 15.
+    pub fn push(&mut self, v: u8) -> bool
+        ensures fits { IsTrue result ↔ ((length self.old < 48) × (v < 16)) }
+        ensures put { OnTrue result (self.new ≡ self.old ++ v ∷ []) }
+        ensures refused { OnFalse result (self.new ≡ self.old) }
+    {
+        if v > 15 || self.values.is_full() {
+            return false;
+        }
+        self.values.push(v);
+        true
+    }
+
     /// The same values again, without memory.
     pub fn copy(&self) -> Nibbles
         ensures { result ≡ self.now }

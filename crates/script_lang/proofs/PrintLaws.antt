@@ -1,24 +1,28 @@
 -- What is printed is read again: the words that are printed hold no space, and say what they spell.
-use Rattle.std.proofs.Common.{◌≡◌, ◌≤◌, ◌<◌, ℕ, ◌+◌, ◌/◌, ◌%◌, ◌^◌, List, [], ◌∷◌, ◌++◌, map, Option, Some, None, Bool, true, false, refl, sym, ap, subst, ◌∙◌, arith}
-use Rattle.std.specs.Prelude.{IsTrue, codes, ◌&&◌, nat_le}
-use Rattle.std.specs.Fmt.{decimal}
+use Rattle.std.proofs.Common.{◌≡◌, ◌≤◌, ◌<◌, ℕ, ◌+◌, List, [], ◌∷◌, ◌++◌, Some, Bool, true, false, refl, sym, subst, arith, ◌^◌, rules, map}
+use Rattle.std.specs.Prelude.{IsTrue, ◌&&◌, nat_le}
 use Rattle.std.specs.List.{list_all, AllByRecursion}
-use Rattle.std.specs.Str.{all_ascii_digits}
 use Rattle.std.proofs.lemmas.Bool.Decides.{nat_tests}
+use Rattle.script_lang.specs.Words.{Word, Exact, Digits, IsWord, Says, is_no_space, hex_value, hex_values, hex_digit, word_text, spaced, joined}
+use Rattle.script_lang.specs.Reading.{line_of}
+use Rattle.std.specs.Fmt.{decimal}
+use Rattle.std.specs.Str.{all_ascii_digits}
 use Rattle.key_source.specs.declared.Key.{Key}
-use Rattle.key_source.specs.declared.Key.TheVariants as keypad
 use Rattle.key_source.specs.declared.Mask.{Mask}
+use Rattle.script_lang.specs.Spelling.{number_word, end_text, classes_text, key_text, key_word, mask_word, eight_values, command_words, step_words, Spells, step_text}
 use Rattle.pad_steps.specs.declared.commands.Command.{Command}
-use Rattle.pad_steps.specs.declared.commands.Command.TheVariants as command
 use Rattle.pad_steps.specs.declared.steps.Step.{Step}
-use Rattle.pad_steps.specs.declared.steps.Step.TheVariants as step
 use Rattle.pad_steps.specs.Formed.{is_scripted}
 use Rattle.script_lang.specs.declared.kinds.Line.TheVariants.{Do}
-use Rattle.script_lang.specs.Words.{Word, Exact, Digits, IsWord, Says, is_no_space, hex_digit, hex_value, hex_values, word_text, spaced, joined}
-use Rattle.script_lang.specs.Spelling.{number_word, mask_word, end_text, classes_text, key_text, key_word, four_values, eight_values, command_words, step_words, step_text, Spells}
-use Rattle.script_lang.specs.Reading.{line_of}
-use Rattle.script_lang.proofs.FieldLaws.{IsNibble, MaskFits, KeyFits, both_true, digits_decimal_all, hex_key_text, fdk_key_text}
-use Rattle.script_lang.proofs.StepLaws.{CommandFits, StepFits, step-fits, line_again}
+use Rattle.key_source.specs.declared.Key.TheVariants as keypad
+use Rattle.pad_steps.specs.declared.commands.Command.TheVariants as command
+use Rattle.pad_steps.specs.declared.steps.Step.TheVariants as step
+use Rattle.script_lang.proofs.Fits.{CommandFits, KeyFits, MaskFits, StepFits, StepFits-from_scripted}
+use Rattle.script_lang.proofs.HexLaws.{IsNibble}
+use Rattle.script_lang.proofs.KeyLaws.{fdk_key_text, hex_key_text}
+use Rattle.script_lang.proofs.LineLaws.{line_again}
+use Rattle.script_lang.proofs.NumberLaws.{digits_decimal_all}
+use Rattle.script_lang.proofs.Options.{both_true}
 
 abbrev Spaceless : List ℕ → Type 0
 Spaceless text = IsTrue (list_all is_no_space text)
@@ -57,13 +61,13 @@ hex_spaceless (d ∷ ds) = rw (is_no_space_above (hex_digit d) (hex_digit_above 
 hex_digit-value : (v : ℕ) → v < 16 → hex_value (hex_digit v) ≡ Some v
 hex_digit-value v small = grind (arith, nat_tests)
 
-hex_again : (ds : List ℕ) → AllByRecursion IsNibble ds → hex_values (map hex_digit ds) ≡ Some ds
+hex_values-digits : (ds : List ℕ) → AllByRecursion IsNibble ds → hex_values (map hex_digit ds) ≡ Some ds
 unfolding hex_values
-hex_again [] all = refl
-hex_again (d ∷ ds) all = rw (hex_digit-value d all.0, hex_again ds all.1) refl
+hex_values-digits [] all = refl
+hex_values-digits (d ∷ ds) all = rw (hex_digit-value d all.0, hex_values-digits ds all.1) refl
 
 digits_print : (ds : List ℕ) → AllByRecursion IsNibble ds → Prints (Digits ds)
-digits_print ds all = (hex_spaceless ds, hex_again ds all)
+digits_print ds all = (hex_spaceless ds, hex_values-digits ds all)
 
 mask_prints : (m : Mask) → MaskFits m → Prints (mask_word m)
 mask_prints m fits = digits_print (eight_values m.keys ++ eight_values m.fdks) (
@@ -166,7 +170,7 @@ some_words step.Boot = refl
 -- the printed line spells the step
 pub text_spells : (s : Step) → IsTrue (is_scripted s) → Spells (step_text s) (Do s)
 unfolding step_text
-text_spells s built = (built, subst (λ (bytes : List ℕ). Says bytes (step_words s)) (sym (some_words s)) (says_spaced (step_words s) (step_prints s (step-fits s built))))
+text_spells s built = (built, subst (λ (bytes : List ℕ). Says bytes (step_words s)) (sym (some_words s)) (says_spaced (step_words s) (step_prints s (StepFits-from_scripted s built))))
 
 pub text_again : (s : Step) → IsTrue (is_scripted s) → line_of (step_text s) ≡ Some (Do s)
 text_again s built = line_again (step_text s) (Do s) (text_spells s built)

@@ -1,12 +1,12 @@
 -- What `read_line` promises, from what it reads exactly.
-use Rattle.std.proofs.Common.{◌≡◌, ℕ, List, Option, Some, None, Result, Ok, Err, refl, sym, ap, subst, ◌∙◌}
+use Rattle.std.proofs.Common.{◌≡◌, ℕ, List, Option, Some, None, Result, Ok, Err, sym, ◌∙◌}
 use Rattle.std.specs.Prelude.{IfOk, OnErr}
 use Rattle.script_lang.specs.declared.kinds.Line.{Line}
 use Rattle.script_lang.specs.declared.kinds.Outside.{Outside}
 use Rattle.script_lang.specs.Spelling.{Spells}
 use Rattle.script_lang.specs.Reading.{Gives, line_of}
-use Rattle.script_lang.proofs.RowLaws.{some_is}
-use Rattle.script_lang.proofs.StepLaws.{line_takes, line_again}
+use Rattle.script_lang.proofs.Options.{some_is}
+use Rattle.script_lang.proofs.LineLaws.{line_takes, line_again}
 
 pub is_found : (bytes : List ℕ) (r : Result Line Outside) → Gives r (line_of bytes) → IfOk r (λ l. Spells bytes l)
 is_found bytes (Ok l) given = line_takes bytes l given

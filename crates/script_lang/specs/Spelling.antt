@@ -1,5 +1,5 @@
 -- The words of each line, and the text that is printed of a step.
-use Rattle.std.specs.Prelude.{Bool, IsTrue, List, None, Option, Some, [], codes, if◌then◌else◌, nat_le, true, ℕ, ◌%◌, ◌&&◌, ◌++◌, ◌+◌, ◌/◌, ◌≡◌, ◌∷◌}
+use Rattle.std.specs.Prelude.{Bool, IsTrue, List, None, Option, Some, [], codes, if◌then◌else◌, nat_le, true, ℕ, ◌%◌, ◌&&◌, ◌++◌, ◌+◌, ◌/◌, ◌∷◌}
 use Rattle.std.specs.Fmt.{decimal}
 use Rattle.pad_words.specs.declared.numbers.Session.{Session}
 use Rattle.key_source.specs.declared.Key.{Key}

@@ -1,5 +1,5 @@
 -- The words of a line, apart from the values that they spell.
-use Rattle.std.specs.Prelude.{Bool, IsTrue, List, None, Option, Some, [], not, if◌then◌else◌, length, map, nat_le, nat_lt, ℕ, ◌&&◌, ◌++◌, ◌+◌, ◌-◌, ◌==◌, ◌≡◌, ◌∷◌}
+use Rattle.std.specs.Prelude.{Bool, IsTrue, List, None, Option, Some, [], not, if◌then◌else◌, map, nat_le, nat_lt, ℕ, ◌&&◌, ◌++◌, ◌+◌, ◌-◌, ◌==◌, ◌≡◌, ◌∷◌}
 use Rattle.std.specs.List.{list_all}
 
 -- a word: these bytes as they stand, or hexadecimal digits of these values

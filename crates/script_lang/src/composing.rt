@@ -65,6 +65,7 @@ fn put_end(auto_end: bool, text: &mut Octets) -> Result<(), NoMemory>
     write_word(if auto_end { "auto" } else { "hold" }, text)
 }
 
+// the rules of an entry, a space before each word
 fn put_rules(alloc: Global, rules: &EntryRules, text: &mut Octets) -> Result<(), NoMemory>
     ensures { OnOk result (text.new ≡ text.old ++ spaced (rules_words rules.now)) }
 {
@@ -76,6 +77,7 @@ fn put_rules(alloc: Global, rules: &EntryRules, text: &mut Octets) -> Result<(),
     put_mask(&rules.terminate, text)
 }
 
+// the command, a space before each word
 fn put_command(alloc: Global, command: &Command, text: &mut Octets) -> Result<(), NoMemory>
     requires { IsTrue (is_well_formed_command command.now) }
     ensures { OnOk result (text.new ≡ text.old ++ spaced (command_words command.now)) }
@@ -86,6 +88,7 @@ fn put_command(alloc: Global, command: &Command, text: &mut Octets) -> Result<()
             put_rules(alloc, rules, text)?;
             Ok(())
         }
+        // no line spells another command yet
         _ => unreachable!(),
     }
 }
@@ -118,6 +121,7 @@ pub fn put_step(alloc: Global, step: &Step, text: &mut Octets) -> Result<(), NoM
             write_word("press ", text)?;
             write_key(alloc, *key, text)
         }
+        // no line spells another step yet
         _ => unreachable!(),
     }
 }

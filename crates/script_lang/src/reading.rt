@@ -9,6 +9,7 @@ use crate::fields::{read_classes, read_end, read_key, read_mask, read_number, re
 use crate::kinds::{Line, Outside};
 use pad_steps::{Command, EntryRules, Step};
 
+// the rules of an entry, to the line's end
 #[tactic(auto, unfolding(crate::specs::Reading::read_rules))]
 fn read_rules(rest: &[u8]) -> Option<EntryRules>
     ensures { result ≡ read_rules rest.now }
@@ -33,6 +34,7 @@ fn read_rules(rest: &[u8]) -> Option<EntryRules>
     })
 }
 
+// the command that begins with the next word
 #[tactic(auto, unfolding(crate::specs::Reading::read_command))]
 fn read_command(rest: &[u8]) -> Option<Command>
     ensures { result ≡ read_command rest.now }
@@ -92,6 +94,7 @@ fn is_built(line: &Line) -> bool
     }
 }
 
+// the line that these bytes spell, if it is built
 #[tactic(auto, unfolding(crate::specs::Reading::line_of))]
 fn read_built(bytes: &[u8]) -> Result<Line, Outside>
     ensures { Gives result (line_of bytes.now) }

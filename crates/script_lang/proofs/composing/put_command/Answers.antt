@@ -1,4 +1,3 @@
-use Rattle.std.proofs.Common.{ℕ, List}
 use Rattle.std.specs.Prelude.{codes}
 use Rattle.script_lang.specs.Words.{spaced}
 use Rattle.script_lang.specs.Spelling.{rules_words}

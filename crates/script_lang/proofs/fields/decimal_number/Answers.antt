@@ -1,7 +1,6 @@
-use Rattle.std.proofs.Common.{◌≡◌, ◌<◌, ◌^◌, ℕ, arith, ◌∙◌}
+use Rattle.std.proofs.Common.{◌∙◌}
 use Rattle.script_lang.specs.Reading.{decimal_value}
-use Rattle.script_lang.specs.Words.{hex_value}
-use Rattle.script_lang.proofs.LoopLemmas.{digits_onto-more, digits_onto-stop, digits_onto-end, pow_more, small_pow}
+use Rattle.script_lang.proofs.LoopLemmas.{digits_onto-more, digits_onto-stop, digits_onto-end, pow_more}
 use Rattle.script_lang.proofs.fields.decimal_number.Goals as goal
 
 pub returns-in_err-digit : goal.returns-in_err-digit

@@ -1,6 +1,5 @@
 use Rattle.std.proofs.Common.{◌≡◌, ◌<◌, ◌^◌, drop}
 use Rattle.script_lang.specs.Reading.{decimal_number, digits_onto, decimal_value}
-use Rattle.script_lang.specs.Words.{hex_value}
 use Rattle.script_lang.proofs.fields.decimal_number.Given as goal
 
 abbrev pub invariant-loop-c : goal.invariant-loop-c

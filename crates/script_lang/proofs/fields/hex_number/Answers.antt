@@ -1,5 +1,4 @@
-use Rattle.std.proofs.Common.{◌≡◌, ◌<◌, ◌^◌, ℕ, arith, ◌∙◌}
-use Rattle.script_lang.specs.Reading.{decimal_value}
+use Rattle.std.proofs.Common.{arith, ◌∙◌}
 use Rattle.script_lang.specs.Words.{hex_value}
 use Rattle.script_lang.proofs.LoopLemmas.{digits_onto-more, digits_onto-stop, digits_onto-end, pow_more, small_pow}
 use Rattle.script_lang.proofs.fields.hex_number.Goals as goal

@@ -1,5 +1,5 @@
 use Rattle.std.proofs.Common.{◌≡◌, ◌<◌, ◌^◌, drop}
-use Rattle.script_lang.specs.Reading.{hex_number, digits_onto, decimal_value}
+use Rattle.script_lang.specs.Reading.{hex_number, digits_onto}
 use Rattle.script_lang.specs.Words.{hex_value}
 use Rattle.script_lang.proofs.fields.hex_number.Given as goal
 

@@ -1,5 +1,5 @@
 use Rattle.script_lang.proofs.ReadLaws.{one_line}
-use Rattle.script_lang.proofs.StepLaws.{line_takes, line_again}
+use Rattle.script_lang.proofs.LineLaws.{line_takes, line_again}
 use Rattle.script_lang.proofs.PrintLaws.{text_spells, text_again}
 use Rattle.script_lang.proofs.laws.spelled_again.Goals as goal
 
