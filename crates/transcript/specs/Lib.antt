@@ -1,0 +1,12 @@
+pub mod Values
+pub mod DiskWords
+pub mod Refusals
+pub mod Replies
+pub mod Questions
+pub mod Events
+pub mod PrintedLines
+pub use Rattle.pad_steps.specs.Lines
+pub use Rattle.pad_steps.specs.Formed
+pub use Rattle.disk_core.specs.Causes
+pub use Rattle.disk_core.specs.Streams
+pub use Rattle.disk_core.specs.CountedSinks

@@ -1,0 +1,54 @@
+//! The text of a step given to a sink.
+ghost use Rattle.std.specs.Prelude.{◌≡◌, ◌≤◌, IsTrue, OnOk, OnErr, Err, is_some};
+ghost use Rattle.disk_core.specs.Causes.{Rose};
+ghost use Rattle.disk_core.specs.CountedSinks.{counted_given, counted_faults};
+ghost use Rattle.disk_core.specs.Streams.{GivesFront, with_more};
+ghost use Rattle.pad_steps.specs.Formed.{is_well_formed};
+ghost use Rattle.transcript.specs.DiskWords.{is_loaded};
+ghost use Rattle.transcript.specs.PrintedLines.{line_text, line_of_step};
+
+use crate::lines::put_line;
+use disk_core::{Counted, Sink, give_all};
+use pad_steps::{DiskWord, Fate, Outs, Step};
+use pad_words::Octets;
+use std::alloc::Global;
+
+/// Why a step was not printed whole.
+#[derive(Clone, Copy, Debug, PartialEq, Eq)]
+pub enum PrintFault {
+    /// The sink failed.
+    Failed,
+    /// Memory was wanting. Nothing was given to the sink.
+    NoMemory,
+}
+
+/// Gives the text of a step to the sink: the step with the disk's word on one line, `press *` where it is
+/// masked, and a line for each out. The fate is there exactly where the word is Loaded. After a fault a
+/// front of the text was given.
+pub fn print_step<K: Sink>(
+    alloc: Global,
+    step: &Step,
+    masked: bool,
+    word: &DiskWord,
+    fate: Option<Fate>,
+    outs: &Outs,
+    sink: &mut Counted<K>,
+) -> Result<(), PrintFault>
+    requires formed { IsTrue (is_well_formed step.now) }
+    requires fate { is_some fate ≡ is_loaded word.now }
+    ensures ok { OnOk result (counted_given K.given sink.new ≡
+        with_more (counted_given K.given sink.old) (line_text (line_of_step step.now masked word.now fate outs.now.items))) }
+    ensures err { OnErr result (GivesFront (counted_given K.given sink.old) (counted_given K.given sink.new)
+        (line_text (line_of_step step.now masked word.now fate outs.now.items))) }
+    ensures later { counted_faults K.faults sink.old ≤ counted_faults K.faults sink.new }
+    ensures cause { result ≡ Err PrintFault.Failed → Rose (counted_faults K.faults sink.old) (counted_faults K.faults sink.new) }
+{
+    let mut text = Octets::empty(alloc);
+    let Ok(()) = put_line(alloc, step, masked, word, fate, outs.items(), &mut text) else {
+        return Err(PrintFault::NoMemory);
+    };
+    match give_all(sink, text.items()) {
+        Ok(()) => Ok(()),
+        Err(_) => Err(PrintFault::Failed),
+    }
+}
