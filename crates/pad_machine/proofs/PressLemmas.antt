@@ -2,7 +2,7 @@
 use Rattle.std.proofs.Common.{ap, sym, ◌∙◌}
 use Rattle.std.specs.Prelude.{List, Option, Some, length, refl, true, ℕ, ◌++◌, ◌≡◌}
 use Rattle.flat_machine.specs.Entries.{active_seen, after_value, digit_in, entry_by}
-use Rattle.flat_machine.specs.Kept.{Kept, KeptAfter, kept_ends, kept_press_in}
+use Rattle.flat_machine.specs.Kept.{kept_ends, kept_press_in}
 use Rattle.flat_machine.specs.State.{Public, Running}
 use Rattle.flat_machine.specs.Works.{Setting}
 use Rattle.flat_machine.specs.declared.types.Seen.TheVariants.{Ended}

@@ -3,13 +3,13 @@ use Rattle.std.proofs.Common.{zero, ap, sym, ◌∙◌, arith, set, get_or, add-
 use Rattle.std.proofs.lemmas.List.{drop_more, get_or_default, set_split, take_rest}
 use Rattle.std.proofs.lemmas.List.Sums.{length-filter}
 use Rattle.std.specs.List.{count_by, list_all}
-use Rattle.std.specs.Prelude.{Bool, IfNone, IfSome, IsTrue, List, None, Option, Some, [], cond, drop, false, filter, if◌then◌else◌, length, refl, suc, take, true, ℕ, ◌&&◌, ◌++◌, ◌+◌, ◌-◌, ◌<◌, ◌∷◌, ◌≡◌, ◌≤◌}
+use Rattle.std.specs.Prelude.{Bool, IfNone, IfSome, IsTrue, List, None, Option, Some, [], drop, false, filter, if◌then◌else◌, length, refl, suc, take, true, ℕ, ◌&&◌, ◌++◌, ◌+◌, ◌-◌, ◌<◌, ◌∷◌, ◌≡◌, ◌≤◌}
 use Rattle.flat_machine.specs.Requests.{begun, eligible, finished, pending_count, pending_where, same_session, working}
 use Rattle.flat_machine.specs.Sound.{pending_pass}
 use Rattle.flat_machine.specs.declared.types.Asked.{Asked}
 use Rattle.flat_machine.specs.declared.types.Row.{Row}
 use Rattle.flat_machine.specs.declared.types.Row.TheVariants.{Gone, InWork, Waiting}
-use Rattle.pad_machine.specs.Queue.{IsScanStart, begun_row, finished_row, is_gone, is_pending_row}
+use Rattle.pad_machine.specs.Queue.{IsScanStart, is_gone, is_pending_row}
 use Rattle.pad_steps.specs.Formed.{is_well_formed_command}
 use Rattle.pad_steps.specs.declared.answers.Reply.{Reply}
 use Rattle.pad_steps.specs.declared.commands.Command.{Command}

@@ -1,10 +1,9 @@
 -- What a step leaves to do, and how many ids it draws.
-use Rattle.std.proofs.Common.{ap, arith, inl, inr, length-append, subst, sym, ◌∙◌}
-use Rattle.std.specs.Prelude.{Bool, IsTrue, List, None, Option, Some, [], false, if◌then◌else◌, length, nat_le, refl, suc, true, ℕ, ◌++◌, ◌+◌, ◌<◌, ◌∷◌, ◌≡◌, ◌≤◌, ◌⊎◌}
-use Rattle.flat_machine.specs.Ciphers.{Ciphers}
+use Rattle.std.proofs.Common.{ap, arith, inl, inr, length-append, subst, ◌∙◌}
+use Rattle.std.specs.Prelude.{Bool, IsTrue, List, None, Option, Some, [], false, if◌then◌else◌, length, refl, suc, true, ℕ, ◌+◌, ◌<◌, ◌∷◌, ◌≡◌, ◌≤◌, ◌⊎◌}
 use Rattle.flat_machine.specs.Decisions.{Goes}
-use Rattle.flat_machine.specs.Entries.{Entry, active_seen, after_value, digit_in, entry_of, entry_refusal}
-use Rattle.flat_machine.specs.EntrySteps.{begin_as, begin_entry, begin_with, entry_answer, first_of, next_begin}
+use Rattle.flat_machine.specs.Entries.{Entry, entry_of, entry_refusal}
+use Rattle.flat_machine.specs.EntrySteps.{begin_as, begin_entry, begin_with, first_of}
 use Rattle.flat_machine.specs.Kept.{Kept, KeptAfter, kept_next, kept_press_in, kept_seen}
 use Rattle.flat_machine.specs.Machine.{due_finish, due_in, next_work}
 use Rattle.flat_machine.specs.RequestSteps.{submit_by, submit_refusal}

@@ -2,14 +2,13 @@
 use Rattle.flat_machine.specs.Requests.{same_session}
 use Rattle.pad_words.specs.declared.numbers.Session.{Session}
 use Rattle.flat_machine.specs.Sound.{pending_pass}
-use Rattle.flat_machine.specs.declared.types.Asked.{Asked}
 use Rattle.flat_machine.specs.declared.types.Row.{Row}
 use Rattle.flat_machine.specs.declared.types.Row.TheVariants.{Gone, InWork, Waiting}
 use Rattle.pad_steps.specs.Formed.{is_well_formed_command}
 use Rattle.pad_steps.specs.declared.answers.Reply.{Reply}
 use Rattle.pad_steps.specs.declared.commands.Command.{Command}
 use Rattle.std.specs.List.{list_all}
-use Rattle.std.specs.Prelude.{Bool, IsTrue, List, false, length, take, true, ℕ, ◌+◌, ◌*◌, ◌≡◌, ◌≤◌, [], ◌∷◌, suc}
+use Rattle.std.specs.Prelude.{Bool, IsTrue, List, false, length, take, true, ℕ, ◌≤◌}
 
 -- the request has its reply
 abbrev pub is_gone : {C R : Type 0} → Row C R → Bool

@@ -2,7 +2,6 @@
 use Rattle.flat_machine.specs.Kept.{Kept, kept_of}
 use Rattle.flat_machine.specs.State.{Flat, Public, Running}
 use Rattle.flat_machine.specs.Entries.{entry_by}
-use Rattle.flat_machine.specs.Requests.{pending_where}
 use Rattle.flat_machine.specs.declared.types.Device.TheVariants.{Ready}
 use Rattle.flat_machine.specs.declared.types.Row.{Row}
 use Rattle.flat_machine.specs.declared.types.Row.TheVariants.{Gone, InWork, Waiting}

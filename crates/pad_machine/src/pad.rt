@@ -79,6 +79,9 @@ impl Pad {
         requires formed { IsTrue (is_well_formed step.now) }
         requires ids { length self.old.public.requests < 2 ^ 32 - 2 }
 
+        // No step calls a device yet.
+        ensures quiet { IfOk result (λ a. a.word ≡ Quiet) }
+
         // For every state that the pad stands for, the step is the machine's.
         ensures fits { IfOk result (λ a. (set : Setting) (h : Flat) → StandsFor self.old h → IsTrue (fits set h.public step.now a.word)) }
         ensures state { IfOk result (λ a. (set : Setting) (h : Flat) → StandsFor self.old h → StandsFor self.new (next set h step.now a.word).state) }

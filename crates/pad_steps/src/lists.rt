@@ -186,6 +186,13 @@ impl Words {
         }
     }
 
+    /// The words of this list.
+    pub fn of(list: Vec<DiskWord>) -> Words
+        ensures { result ≡ list.items }
+    {
+        Words { list }
+    }
+
     /// The words in order.
     pub fn items(&self) -> &[DiskWord]
         ensures { result.now ≡ self.now }

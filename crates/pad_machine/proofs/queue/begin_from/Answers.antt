@@ -1,4 +1,4 @@
-use Rattle.std.proofs.Common.{ap, arith, length, refl, set, vec_len, ◌∙◌, ◌≡◌, ◌<◌}
+use Rattle.std.proofs.Common.{ap, arith, length, refl, set, ◌∙◌, ◌<◌}
 use Rattle.std.specs.Prelude.{None}
 use Rattle.flat_machine.specs.Requests.{begun}
 use Rattle.pad_machine.specs.Queue.{begun_row}

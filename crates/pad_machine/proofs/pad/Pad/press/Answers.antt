@@ -1,4 +1,4 @@
-use Rattle.std.proofs.Common.{ap, sym, ◌∙◌}
+use Rattle.std.proofs.Common.{ap, ◌∙◌}
 use Rattle.std.specs.Prelude.{length, true, ◌≡◌}
 use Rattle.flat_machine.specs.Entries.{active_seen, entry_by}
 use Rattle.flat_machine.specs.Kept.{Kept, KeptAfter, kept_press_in}

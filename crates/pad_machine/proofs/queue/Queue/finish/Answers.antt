@@ -1,4 +1,4 @@
-use Rattle.std.proofs.Common.{◌∙◌, ◌≡◌}
+use Rattle.std.proofs.Common.{◌∙◌}
 use Rattle.flat_machine.specs.Requests.{finished}
 use Rattle.pad_machine.specs.Queue.{IsScanStart}
 use Rattle.pad_machine.proofs.QueueLemmas.{scan-finished, scan-moved}

@@ -1,0 +1,179 @@
+-- Parts of a run, one after another.
+use Rattle.std.proofs.Common.{ap, append-nil, append_assoc, arith, get_or, length-append, subst, sym, ◌∙◌}
+use Rattle.std.proofs.lemmas.Grind.{common_steps}
+use Rattle.std.proofs.lemmas.List.{drop_more, take-append-le}
+use Rattle.std.proofs.Math.Seq.{take-append-add}
+use Rattle.std.specs.Prelude.{Bool, List, None, Option, Some, [], drop, length, refl, take, true, ℕ, ◌++◌, ◌+◌, ◌<◌, ◌∷◌, ◌≡◌}
+use Rattle.disk_core.specs.Streams.{GivesFront, with_more}
+use Rattle.flat_machine.specs.Kept.{Kept}
+use Rattle.flat_machine.specs.Machine.{Act, line_of, masked, next, next_work}
+use Rattle.flat_machine.specs.Power.{word_fate}
+use Rattle.flat_machine.specs.State.{Flat, ready_opening}
+use Rattle.flat_machine.specs.Works.{Setting}
+use Rattle.pad_machine.specs.Stands.{StandsFor}
+use Rattle.pad_steps.specs.declared.answers.Out.{Out}
+use Rattle.pad_steps.specs.declared.steps.DiskWord.{DiskWord}
+use Rattle.pad_steps.specs.declared.steps.DiskWord.TheVariants.{Quiet}
+use Rattle.pad_steps.specs.declared.steps.Fate.{Fate}
+use Rattle.pad_steps.specs.declared.steps.Step.{Step}
+use Rattle.pinpad_cli.specs.Parts.{BrokeOff, Ran}
+use Rattle.pinpad_cli.specs.Runs.{Played, Player, auto_then, line_then, play, step_then, text_from, with_acts}
+use Rattle.script_lang.specs.declared.kinds.Line.{Line}
+use Rattle.transcript.specs.PrintedLines.{line_of_step, line_text}
+
+-- what was given is given, and more
+with_more-none : (given : Option (List ℕ)) → given ≡ with_more given []
+with_more-none None = refl
+with_more-none (Some bytes) = ap (λ (all : List ℕ). Some all) (sym (append-nil bytes))
+
+with_more-with_more : (given : Option (List ℕ)) (first second : List ℕ) → with_more (with_more given first) second ≡ with_more given (first ++ second)
+with_more-with_more None first second = refl
+with_more-with_more (Some bytes) first second = ap (λ (all : List ℕ). Some all) (append_assoc bytes first second)
+
+take-all : (text : List ℕ) → take (length text) text ≡ text
+take-all text = grind (arith, common_steps)
+
+-- the whole of a text is a front of it
+pub front-whole : (given now : Option (List ℕ)) (text : List ℕ) → now ≡ with_more given text → GivesFront given now text
+front-whole given now text printed = (length text, omega arith, printed ∙ ap (with_more given) (sym (take-all text)))
+
+-- a front after a whole, and a front of a longer text
+front-after : (given between now : Option (List ℕ)) (text rest : List ℕ) → between ≡ with_more given text → GivesFront between now rest → GivesFront given now (text ++ rest)
+front-after given between now text rest printed front = (
+  length text + front.0,
+  omega (arith, front.1, length-append text rest),
+  front.2 ∙ ap (λ (g : Option (List ℕ)). with_more g (take front.0 rest)) printed ∙ with_more-with_more given text (take front.0 rest)
+      ∙ ap (with_more given) (sym (take-append-add text rest front.0)),
+)
+
+front-longer : (given now : Option (List ℕ)) (text more all : List ℕ) → text ++ more ≡ all → GivesFront given now text → GivesFront given now all
+front-longer given now text more all is front = (
+  front.0,
+  omega (arith, front.1, length-append text more, ap length is),
+  front.2 ∙ ap (with_more given) (sym (take-append-le front.0 text more front.1) ∙ ap (take front.0) is),
+)
+
+-- what the code prints of a step is the machine's line
+pub line_of_step-is : (set : Setting) (state : Flat) (step : Step) (word : DiskWord) (is_masked : Bool) (outs : List Out) → word ≡ Quiet → is_masked ≡ masked state.public step → outs ≡ (next set state step word).outs
+    → line_text (line_of_step step is_masked word None outs) ≡ line_text (line_of set state (record { step = step; word = word }))
+line_of_step-is set state step word is_masked outs quiet hidden said =
+    ap (λ (m : Bool). line_text (line_of_step step m word None outs)) hidden
+    ∙ ap (λ (o : List Out). line_text (line_of_step step (masked state.public step) word None o)) said
+    ∙ ap (λ (f : Option Fate). line_text (line_of_step step (masked state.public step) word f (next set state step word).outs)) (sym (ap (λ (w : DiskWord). word_fate state.public w) quiet))
+
+module _ (set : Setting) where
+  -- nothing was played
+  pub ran-none : (state : Flat) (player : Player) (kept : Kept) (words : List DiskWord) (given : Option (List ℕ)) → StandsFor kept state → Ran set state player player kept words words given given
+  ran-none state player kept words given stands = record { state = state; stands = stands; more = []; told_more = sym (append-nil words); done = []; played = λ tail. refl; text = []; printed = with_more-none given; spelled = λ others. refl }
+
+  pub broke-none : (state : Flat) (player : Player) (words : List DiskWord) (given : Option (List ℕ)) → BrokeOff set state player words words given given
+  broke-none state player words given = record { more = []; told_more = sym (append-nil words); front = (0, omega arith, with_more-none given) }
+
+  -- one step was played
+  pub ran-step : (state : Flat) (rest : Player) (kept : Kept) (words told : List DiskWord) (given now : Option (List ℕ)) (step : Step) (word : DiskWord) (text : List ℕ)
+      → StandsFor kept (next set state step word).state → told ≡ words ++ word ∷ [] → now ≡ with_more given text
+      → text ≡ line_text (line_of set state (record { step = step; word = word }))
+      → Ran set state (step_then set step rest) rest kept words told given now
+  ran-step state rest kept words told given now step word text stands told_is printed is = record {
+    state = (next set state step word).state;
+    stands = stands;
+    more = word ∷ [];
+    told_more = told_is;
+    done = record { step = step; word = word } ∷ [];
+    played = λ tail. refl;
+    text = text;
+    printed = printed;
+    spelled = λ others. ap (λ (t : List ℕ). t ++ text_from set (next set state step word).state others) (sym is);
+  }
+
+  -- one step was played, and a front of its text was given
+  pub broke-step : (state : Flat) (rest : Player) (words told : List DiskWord) (given now : Option (List ℕ)) (step : Step) (word : DiskWord) (text : List ℕ)
+      → told ≡ words ++ word ∷ [] → GivesFront given now text
+      → text ≡ line_text (line_of set state (record { step = step; word = word }))
+      → BrokeOff set state (step_then set step rest) words told given now
+  broke-step state rest words told given now step word text told_is front is = record {
+    more = word ∷ [];
+    told_more = told_is;
+    front = front-longer given now text (text_from set (next set state step word).state (rest (next set state step word).state []).acts) _
+        (ap (λ (t : List ℕ). t ++ text_from set (next set state step word).state (rest (next set state step word).state []).acts) is) front;
+  }
+
+  -- one part after another
+  pub ran-then : (start : Flat) (whole between rest : Player) (one two : Kept) (words told_one told_two : List DiskWord) (given given_one given_two : Option (List ℕ))
+      → Ran set start whole between one words told_one given given_one
+      → ((state : Flat) → StandsFor one state → Ran set state between rest two told_one told_two given_one given_two)
+      → Ran set start whole rest two words told_two given given_two
+  ran-then start whole between rest one two words told_one told_two given given_one given_two first goes_on =
+      let second : Ran set first.state between rest two told_one told_two given_one given_two = goes_on first.state first.stands in
+      record {
+        state = second.state;
+        stands = second.stands;
+        more = first.more ++ second.more;
+        told_more = second.told_more ∙ ap (λ (told : List DiskWord). told ++ second.more) first.told_more ∙ append_assoc words first.more second.more;
+        done = first.done ++ second.done;
+        played = λ tail.
+            ap (whole start) (append_assoc first.more second.more tail) ∙ first.played (second.more ++ tail) ∙ ap (with_acts first.done) (second.played tail)
+            ∙ ap (λ (acts : List Act). record { acts = acts; whole = (rest second.state tail).whole }) (sym (append_assoc first.done second.done (rest second.state tail).acts));
+        text = first.text ++ second.text;
+        printed = second.printed ∙ ap (λ (g : Option (List ℕ)). with_more g second.text) first.printed ∙ with_more-with_more given first.text second.text;
+        spelled = λ others.
+            ap (text_from set start) (append_assoc first.done second.done others) ∙ first.spelled (second.done ++ others) ∙ ap (λ (t : List ℕ). first.text ++ t) (second.spelled others)
+            ∙ sym (append_assoc first.text second.text (text_from set second.state others));
+      }
+
+  pub broke-then : (start : Flat) (whole between : Player) (one : Kept) (words told_one told_two : List DiskWord) (given given_one given_two : Option (List ℕ))
+      → Ran set start whole between one words told_one given given_one
+      → ((state : Flat) → StandsFor one state → BrokeOff set state between told_one told_two given_one given_two)
+      → BrokeOff set start whole words told_two given given_two
+  broke-then start whole between one words told_one told_two given given_one given_two first goes_on =
+      let second : BrokeOff set first.state between told_one told_two given_one given_two = goes_on first.state first.stands in
+      let acts : (whole start (first.more ++ second.more)).acts ≡ first.done ++ (between first.state second.more).acts = ap (λ (played : Played). played.acts) (first.played second.more) in
+      let text : text_from set start (whole start (first.more ++ second.more)).acts ≡ first.text ++ text_from set first.state (between first.state second.more).acts =
+      ap (text_from set start) acts ∙ first.spelled (between first.state second.more).acts in
+      record {
+        more = first.more ++ second.more;
+        told_more = second.told_more ∙ ap (λ (told : List DiskWord). told ++ second.more) first.told_more ∙ append_assoc words first.more second.more;
+        front = subst (λ (t : List ℕ). GivesFront given given_two t) (sym text) (front-after given given_one given_two first.text (text_from set first.state (between first.state second.more).acts) first.printed second.front);
+      }
+
+  -- where another player plays the same from there
+  pub ran-as : (state : Flat) (one two rest : Player) (kept : Kept) (words told : List DiskWord) (given now : Option (List ℕ)) → Ran set state one rest kept words told given now → ((ws : List DiskWord) → two state ws ≡ one state ws) → Ran set state two rest kept words told given now
+  ran-as state one two rest kept words told given now ran same = record { state = ran.state; stands = ran.stands; more = ran.more; told_more = ran.told_more; done = ran.done; played = λ tail. same (ran.more ++ tail) ∙ ran.played tail; text = ran.text; printed = ran.printed; spelled = ran.spelled }
+
+  pub ran-over : (state : Flat) (whole one two : Player) (kept : Kept) (words told : List DiskWord) (given now : Option (List ℕ)) → Ran set state whole one kept words told given now → ((later : Flat) (ws : List DiskWord) → StandsFor kept later → one later ws ≡ two later ws) → Ran set state whole two kept words told given now
+  ran-over state whole one two kept words told given now ran same = record { state = ran.state; stands = ran.stands; more = ran.more; told_more = ran.told_more; done = ran.done; played = λ tail. ran.played tail ∙ ap (with_acts ran.done) (same ran.state tail ran.stands); text = ran.text; printed = ran.printed; spelled = ran.spelled }
+
+  pub broke-as : (state : Flat) (one two : Player) (words told : List DiskWord) (given now : Option (List ℕ)) → BrokeOff set state one words told given now → ((ws : List DiskWord) → two state ws ≡ one state ws) → BrokeOff set state two words told given now
+  broke-as state one two words told given now broke same = record { more = broke.more; told_more = broke.told_more; front = subst (λ (played : Played). GivesFront given now (text_from set state played.acts)) (sym (same broke.more)) broke.front }
+
+  -- a step that is due comes first, and where none is the rest comes
+  pub auto_then-due : (rest : Player) (state : Flat) (step : Step) (words : List DiskWord) → next_work state.public ≡ Some step → auto_then set rest state words ≡ step_then set step (auto_then set rest) state words
+  auto_then-due rest state step [] due = rw due refl
+  auto_then-due rest state step (word ∷ words) due = rw due refl
+
+  pub auto_then-over : (rest : Player) (state : Flat) (words : List DiskWord) → next_work state.public ≡ None → auto_then set rest state words ≡ rest state words
+  auto_then-over rest state [] none = rw none refl
+  auto_then-over rest state (word ∷ words) none = rw none refl
+
+  -- the line at a place, and the lines after it
+  pub play-more : (lines : List Line) (place : ℕ) (line : Line) → place < length lines → line ≡ get_or lines place line → (state : Flat) (words : List DiskWord)
+      → play set (drop place lines) state words ≡ line_then set line (play set (drop (place + 1) lines)) state words
+  play-more lines place line lt is state words =
+      ap (λ (rest : List Line). play set rest state words) (drop_more lines place line lt)
+      ∙ ap (λ (first : Line). line_then set first (play set (drop (place + 1) lines)) state words) (sym is)
+
+  -- a run to the end
+  pub record Finished (words : List DiskWord) (played : Played) (given now : Option (List ℕ)) : Type 0 where
+    pub whole : played.whole ≡ true
+    pub printed : now ≡ with_more given (text_from set ready_opening played.acts)
+
+  pub finished-ran : (lines : List Line) (kept : Kept) (told : List DiskWord) (given now : Option (List ℕ)) → Ran set ready_opening (play set lines) (play set []) kept [] told given now → Finished told (play set lines ready_opening told) given now
+  finished-ran lines kept told given now ran =
+      let is : play set lines ready_opening told ≡ record { acts = ran.done ++ []; whole = true } = ap (play set lines ready_opening) (ran.told_more ∙ sym (append-nil ran.more)) ∙ ran.played [] in
+      record {
+        whole = ap (λ (played : Played). played.whole) is;
+        printed = ran.printed ∙ ap (with_more given) (sym (ap (λ (played : Played). text_from set ready_opening played.acts) is ∙ ran.spelled [] ∙ append-nil ran.text));
+      }
+
+  pub front-broke : (lines : List Line) (told : List DiskWord) (given now : Option (List ℕ)) → BrokeOff set ready_opening (play set lines) [] told given now → GivesFront given now (text_from set ready_opening (play set lines ready_opening told).acts)
+  front-broke lines told given now broke = subst (λ (words : List DiskWord). GivesFront given now (text_from set ready_opening (play set lines ready_opening words).acts)) (sym broke.told_more) broke.front

@@ -1,0 +1,22 @@
+use Rattle.std.proofs.Common.{arith, sym}
+use Rattle.pinpad_cli.proofs.RunLemmas.{auto_then-due, auto_then-over, broke-as, broke-then, ran-as, ran-none, ran-over, ran-then}
+use Rattle.pinpad_cli.specs.Runs.{auto_then, step_then}
+use Rattle.pinpad_cli.proofs.running.run_auto.Goals as goal
+
+pub loop-step-init : goal.loop-step-init
+loop-step-init g c = record { ran = λ set h rest stands. ran-none set h (auto_then set rest) c.args.pad.now c.args.words.now.items _ stands; later = omega arith; ids = omega arith }
+
+pub loop-step-preserved : goal.loop-step-preserved
+loop-step-preserved g c = record {
+  ran = λ set h rest stands. ran-then set h (auto_then set rest) (auto_then set rest) (auto_then set rest) c.loop-step.pad c.run_step.new.pad _ c.loop-step.words.items _ _ _ _ (c.loop-step.invariant.ran set h rest stands)
+      (λ k now. ran-as set k (step_then set c.in-Some.step (auto_then set rest)) (auto_then set rest) (auto_then set rest) _ _ _ _ _ (c.in-Ok.ensures.ran set k (auto_then set rest) now) (λ ws. auto_then-due set rest k c.in-Some.step ws (sym (c.in-Some.ensures.due k now))));
+  later = omega (arith, c.loop-step.invariant.later, c.in-Ok.ensures.later);
+  ids = omega (arith, c.loop-step.invariant.ids, c.in-Ok.ensures.ids, c.in-Some.ensures.draws);
+}
+
+pub returns-in-Err-clause-broke : goal.returns-in-Err-clause-broke
+returns-in-Err-clause-broke g c = λ set h rest stands. broke-then set h (auto_then set rest) (auto_then set rest) c.loop-step.pad _ c.loop-step.words.items _ _ _ _ (c.loop-step.invariant.ran set h rest stands)
+    (λ k now. broke-as set k (step_then set c.in-Some.step (auto_then set rest)) (auto_then set rest) _ _ _ _ (c.in-Err.ensures.broke set k (auto_then set rest) now) (λ ws. auto_then-due set rest k c.in-Some.step ws (sym (c.in-Some.ensures.due k now))))
+
+pub returns-clause-ran : goal.returns-clause-ran
+returns-clause-ran g c = λ set h rest stands. ran-over set h (auto_then set rest) (auto_then set rest) rest _ _ _ _ _ (c.loop-step.invariant.ran set h rest stands) (λ k ws now. auto_then-over set rest k ws (sym (c.in_default.ensures.due k now)))

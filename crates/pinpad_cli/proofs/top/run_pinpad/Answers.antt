@@ -1,0 +1,52 @@
+use Rattle.std.proofs.Common.{ap, inl, subst, sym, ◌∙◌}
+use Rattle.std.specs.Prelude.{IsSome, List, None, Option, ◌≡◌}
+use Rattle.disk_core.specs.Streams.{GivesFront, with_more}
+use Rattle.flat_machine.specs.Machine.{Act}
+use Rattle.flat_machine.specs.State.{ready_opening}
+use Rattle.flat_machine.specs.Twins.{Twins}
+use Rattle.flat_machine.specs.Works.{Setting}
+use Rattle.pad_steps.specs.Lines.{Line}
+use Rattle.pinpad_cli.proofs.TopLemmas.{read-fact, read-steps, read-to_end, read-words}
+use Rattle.pinpad_cli.specs.Runs.{line_count, text_of}
+use Rattle.script_lang.specs.declared.kinds.Line.{Line as ScriptLine}
+use Rattle.transcript.specs.PrintedLines.{lines_text}
+use Rattle.pinpad_cli.proofs.top.run_pinpad.Goals as goal
+
+pub returns-in-Ok-clause-read_to_end : goal.returns-in-Ok-clause-read_to_end
+returns-in-Ok-clause-read_to_end g c = λ zero. read-to_end _ _ c.in-Ok.text c.in-Ok.ensures.read (rw c.items.ensures at (c.run_script.ensures.inside (inl zero)))
+
+pub returns-in-Ok-clause-whole : goal.returns-in-Ok-clause-whole
+returns-in-Ok-clause-whole g c = λ zero. read-words _ _ c.in-Ok.text _ c.in-Ok.ensures.read (rw c.items.ensures at (c.run_script.ensures.whole zero))
+
+pub returns-in-Ok-clause-lines : goal.returns-in-Ok-clause-lines
+returns-in-Ok-clause-lines g c = λ zero. read-fact _ _ c.in-Ok.text (λ (lines : Option (List ScriptLine)). c.run_script.result.line ≡ line_count lines) c.in-Ok.ensures.read (rw c.items.ensures at (c.run_script.ensures.lines zero))
+
+pub returns-in-Ok-clause-printed : goal.returns-in-Ok-clause-printed
+returns-in-Ok-clause-printed g c = λ zero. read-steps _ _ c.in-Ok.text c.run_script.result.words
+    (λ (set : Setting) (acts : List Act). g.K.Sink.given c.run_script.new.sink.inner ≡ with_more (g.K.Sink.given c.args.sink.now.inner) (text_of set acts))
+    c.in-Ok.ensures.read (rw c.items.ensures at (c.run_script.ensures.printed zero))
+
+pub returns-in-Ok-clause-twins : goal.returns-in-Ok-clause-twins
+returns-in-Ok-clause-twins g c = λ zero. read-steps _ _ c.in-Ok.text c.run_script.result.words
+    (λ (set : Setting) (acts : List Act). (b : List Act) → Twins set ready_opening acts b → g.K.Sink.given c.run_script.new.sink.inner ≡ with_more (g.K.Sink.given c.args.sink.now.inner) (text_of set b))
+    c.in-Ok.ensures.read
+    (λ set b twins. (rw c.items.ensures at (c.run_script.ensures.printed zero)) set
+    ∙ ap (λ (lines : List Line). with_more (g.K.Sink.given c.args.sink.now.inner) (lines_text lines)) (sym (c.twins_print_alike.ensures set ready_opening _ b twins)))
+
+pub returns-in-Ok-clause-front : goal.returns-in-Ok-clause-front
+returns-in-Ok-clause-front g c = read-steps _ _ c.in-Ok.text c.run_script.result.words
+    (λ (set : Setting) (acts : List Act). GivesFront (g.K.Sink.given c.args.sink.now.inner) (g.K.Sink.given c.run_script.new.sink.inner) (text_of set acts))
+    c.in-Ok.ensures.read (rw c.items.ensures at c.run_script.ensures.front)
+
+pub returns-in-Ok-clause-twin_front : goal.returns-in-Ok-clause-twin_front
+returns-in-Ok-clause-twin_front g c = read-steps _ _ c.in-Ok.text c.run_script.result.words
+    (λ (set : Setting) (acts : List Act). (b : List Act) → Twins set ready_opening acts b → GivesFront (g.K.Sink.given c.args.sink.now.inner) (g.K.Sink.given c.run_script.new.sink.inner) (text_of set b))
+    c.in-Ok.ensures.read
+    (λ set b twins. subst (λ (lines : List Line). GivesFront (g.K.Sink.given c.args.sink.now.inner) (g.K.Sink.given c.run_script.new.sink.inner) (lines_text lines)) (sym (c.twins_print_alike.ensures set ready_opening _ b twins))
+    ((rw c.items.ensures at c.run_script.ensures.front) set))
+
+pub returns-in-Ok-clause-outside : goal.returns-in-Ok-clause-outside
+returns-in-Ok-clause-outside g c = λ one. read-fact _ _ c.in-Ok.text (λ (lines : Option (List ScriptLine)). lines ≡ None) c.in-Ok.ensures.read (rw c.items.ensures at (c.run_script.ensures.outside one))
+
+pub returns-in-Ok-clause-inside : goal.returns-in-Ok-clause-inside
+returns-in-Ok-clause-inside g c = λ either. read-fact _ _ c.in-Ok.text (λ (lines : Option (List ScriptLine)). IsSome lines) c.in-Ok.ensures.read (rw c.items.ensures at (c.run_script.ensures.inside either))

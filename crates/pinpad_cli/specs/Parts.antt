@@ -1,0 +1,28 @@
+-- A part of a run, as the code takes it.
+use Rattle.std.specs.Prelude.{List, Option, ℕ, ◌++◌, ◌≡◌}
+use Rattle.disk_core.specs.Streams.{GivesFront, with_more}
+use Rattle.flat_machine.specs.Kept.{Kept}
+use Rattle.flat_machine.specs.Machine.{Act}
+use Rattle.flat_machine.specs.State.{Flat}
+use Rattle.flat_machine.specs.Works.{Setting}
+use Rattle.pad_machine.specs.Stands.{StandsFor}
+use Rattle.pad_steps.specs.declared.steps.DiskWord.{DiskWord}
+use Rattle.pinpad_cli.specs.Runs.{Player, text_from, with_acts}
+
+-- From a state the machine played the front of a whole, and a rest is left to play. All of its text was given.
+pub record Ran (setting : Setting) (before : Flat) (whole rest : Player) (kept : Kept) (words told : List DiskWord) (given now : Option (List ℕ)) : Type 0 where
+  pub state : Flat
+  pub stands : StandsFor kept state
+  pub more : List DiskWord
+  pub told_more : told ≡ words ++ more
+  pub done : List Act
+  pub played : (tail : List DiskWord) → whole before (more ++ tail) ≡ with_acts done (rest state tail)
+  pub text : List ℕ
+  pub printed : now ≡ with_more given text
+  pub spelled : (others : List Act) → text_from setting before (done ++ others) ≡ text ++ text_from setting state others
+
+-- From a state the machine played some of a whole, and a front of the text of that was given.
+pub record BrokeOff (setting : Setting) (before : Flat) (whole : Player) (words told : List DiskWord) (given now : Option (List ℕ)) : Type 0 where
+  pub more : List DiskWord
+  pub told_more : told ≡ words ++ more
+  pub front : GivesFront given now (text_from setting before (whole before more).acts)

@@ -1,0 +1,82 @@
+// A script cut into lines.
+ghost use Rattle.std.specs.Prelude.{◌≡◌, ◌<◌, ◌≤◌, ◌++◌, ◌∷◌, [], All, IfNone, IfOk, IfSome, IsTrue, None, OnOk, Some, drop, length};
+ghost use Rattle.pinpad_cli.specs.Cuts.{feed_at, items_of, IsBuilt};
+ghost use Rattle.pinpad_cli.specs.Script.{lines_of, lines_of_pieces, pieces_of, with_line};
+
+use crate::reading::LONGEST_SCRIPT;
+use pad_words::NoMemory;
+use script_lang::{Line, read_line};
+use std::alloc::Global;
+
+/// The lines of a script. None where it is too long, a line is outside the grammar or the last is not ended.
+#[tactic(auto, unfolding(crate::specs::Script::lines_of))]
+pub fn script_lines(alloc: Global, script: &[u8]) -> Result<Option<Vec<Line>>, NoMemory>
+    ensures exact { IfOk result (λ found. items_of found ≡ lines_of script.now) }
+    ensures built { IfOk result (λ found. IfSome found (λ lines. All IsBuilt lines.items)) }
+    ensures few { IfOk result (λ found. IfSome found (λ lines. length lines.items ≤ 1048576)) }
+{
+    if script.len() > LONGEST_SCRIPT {
+        return Ok(None);
+    }
+    cut(alloc, script)
+}
+
+// The lines of a text of any length.
+fn cut(alloc: Global, script: &[u8]) -> Result<Option<Vec<Line>>, NoMemory>
+    ensures exact { IfOk result (λ found. items_of found ≡ lines_of_pieces (pieces_of script.now)) }
+    ensures built { IfOk result (λ found. IfSome found (λ lines. All IsBuilt lines.items)) }
+    ensures few { IfOk result (λ found. IfSome found (λ lines. length lines.items ≤ length script.now)) }
+{
+    let mut lines = Vec::new(alloc);
+    let mut at = 0;
+    while at < script.len() {
+        match first_line(&script[at..]) {
+            None => return Ok(None),
+            Some((line, length)) => {
+                add(&mut lines, line)?;
+                at += length;
+            }
+        }
+    }
+    Ok(Some(lines))
+}
+
+// The first line, and how many bytes it takes with its line feed. None where it has no feed or is outside the grammar.
+fn first_line(rest: &[u8]) -> Option<(Line, usize)>
+    requires { 0 < length rest.now }
+    ensures found { IfSome result (λ first. lines_of_pieces (pieces_of rest.now) ≡ with_line (Some first.0) (lines_of_pieces (pieces_of (drop first.1 rest.now)))) }
+    ensures some { IfSome result (λ first. 0 < first.1) }
+    ensures within { IfSome result (λ first. first.1 ≤ length rest.now) }
+    ensures built { IfSome result (λ first. IsBuilt first.0) }
+    ensures outside { IfNone result (lines_of_pieces (pieces_of rest.now) ≡ None) }
+{
+    let end = feed_place(rest);
+    if end == rest.len() {
+        return None;
+    }
+    match read_line(&rest[..end]) {
+        Ok(line) => Some((line, end + 1)),
+        Err(_) => None,
+    }
+}
+
+// How many bytes stand before the first line feed; all of them where there is none.
+fn feed_place(bytes: &[u8]) -> usize
+    ensures within { result ≤ length bytes.now }
+    ensures exact { result ≡ feed_at bytes.now }
+{
+    let mut at = 0;
+    while at < bytes.len() && bytes[at] != b'\n' {
+        at += 1;
+    }
+    at
+}
+
+fn add(lines: &mut Vec<Line>, line: Line) -> Result<(), NoMemory>
+    ensures { OnOk result (lines.new.items ≡ lines.old.items ++ line ∷ []) }
+{
+    match lines.push(line) {
+        Ok(()) => Ok(()),
+        Err(_) => Err(NoMemory),
+    }
+}

@@ -1,0 +1,194 @@
+// A script run line by line, and printed.
+ghost use Rattle.std.specs.Prelude.{◌≡◌, ◌<◌, ◌≤◌, ◌+◌, ◌-◌, ◌^◌, All, IfErr, IfNone, IsTrue, OnErr, OnOk, OnSome, Some, [], false, length};
+ghost use Rattle.disk_core.specs.Causes.{Rose};
+ghost use Rattle.disk_core.specs.CountedSinks.{counted_given, counted_faults};
+ghost use Rattle.flat_machine.specs.Machine.{next_work};
+ghost use Rattle.flat_machine.specs.State.{Flat, is_off};
+ghost use Rattle.flat_machine.specs.Works.{Setting};
+ghost use Rattle.pad_machine.specs.Stands.{StandsFor, draws, work_left};
+ghost use Rattle.pad_steps.specs.Formed.{is_well_formed};
+ghost use Rattle.pinpad_cli.specs.Cuts.{IsBuilt};
+ghost use Rattle.pinpad_cli.specs.Parts.{Ran, BrokeOff};
+ghost use Rattle.pinpad_cli.specs.Runs.{Player, step_then, auto_then, line_then, play};
+
+use disk_core::{Counted, Sink};
+use pad_machine::Pad;
+use pad_steps::{DiskWord, Outs, Step};
+use script_lang::Line;
+use std::alloc::Global;
+use transcript::{PrintFault, print_step};
+
+/// Why a run broke off.
+#[derive(Clone, Copy, Debug, PartialEq, Eq)]
+pub enum Fault {
+    /// The source or the sink failed.
+    Failed,
+    /// Memory was wanting.
+    NoMemory,
+}
+
+/// Where a run broke off: why, and whether the step that it came to was taken.
+#[derive(Clone, Copy, Debug)]
+pub struct Break {
+    pub fault: Fault,
+    pub taken: bool,
+}
+
+/// Takes a step, prints it and keeps its word.
+pub fn run_step<K: Sink>(
+    alloc: Global,
+    pad: &mut Pad,
+    step: &Step,
+    words: &mut Vec<DiskWord>,
+    sink: &mut Counted<K>,
+) -> Result<(), Break>
+    requires formed { IsTrue (is_well_formed step.now) }
+    requires ids { length pad.old.public.requests < 2 ^ 32 - 2 }
+    ensures ran { OnOk result ((set : Setting) (h : Flat) (rest : Player) → StandsFor pad.old h →
+        Ran set h (step_then set step.now rest) rest pad.new words.old.items words.new.items (counted_given K.given sink.old) (counted_given K.given sink.new)) }
+    ensures broke { OnErr result ((set : Setting) (h : Flat) (rest : Player) → StandsFor pad.old h →
+        BrokeOff set h (step_then set step.now rest) words.old.items words.new.items (counted_given K.given sink.old) (counted_given K.given sink.new)) }
+    ensures later { counted_faults K.faults sink.old ≤ counted_faults K.faults sink.new }
+    ensures cause { IfErr result (λ stop. stop.fault ≡ Fault.Failed → Rose (counted_faults K.faults sink.old) (counted_faults K.faults sink.new)) }
+    ensures less { OnOk result (is_off pad.old.public.device ≡ false → next_work pad.old.public ≡ Some step.now → work_left pad.new.public.requests < work_left pad.old.public.requests) }
+    ensures ids { OnOk result (length pad.new.public.requests ≤ length pad.old.public.requests + draws step.now) }
+{
+    let masked = pad.masked(step);
+    let Ok(mut outs) = Outs::new(alloc) else {
+        return Err(not_taken());
+    };
+    let Ok(()) = words.reserve(1) else {
+        return Err(not_taken());
+    };
+    let Ok(stepped) = pad.step(step, &mut outs) else {
+        return Err(not_taken());
+    };
+    let printed = print_step(alloc, step, masked, &stepped.word, None, &outs, sink);
+    words.push_reserved(stepped.word);
+    match printed {
+        Ok(()) => Ok(()),
+        Err(PrintFault::Failed) => Err(Break {
+            fault: Fault::Failed,
+            taken: true,
+        }),
+        Err(PrintFault::NoMemory) => Err(Break {
+            fault: Fault::NoMemory,
+            taken: true,
+        }),
+    }
+}
+
+// Memory was wanting before a step was taken.
+fn not_taken() -> Break
+    ensures { result.fault ≡ Fault.NoMemory }
+{
+    Break {
+        fault: Fault::NoMemory,
+        taken: false,
+    }
+}
+
+/// Takes the steps that are due, until none is.
+pub fn run_auto<K: Sink>(
+    alloc: Global,
+    pad: &mut Pad,
+    words: &mut Vec<DiskWord>,
+    sink: &mut Counted<K>,
+) -> Result<(), Break>
+    requires ids { length pad.old.public.requests < 2 ^ 32 - 2 }
+    ensures ran { OnOk result ((set : Setting) (h : Flat) (rest : Player) → StandsFor pad.old h →
+        Ran set h (auto_then set rest) rest pad.new words.old.items words.new.items (counted_given K.given sink.old) (counted_given K.given sink.new)) }
+    ensures broke { OnErr result ((set : Setting) (h : Flat) (rest : Player) → StandsFor pad.old h →
+        BrokeOff set h (auto_then set rest) words.old.items words.new.items (counted_given K.given sink.old) (counted_given K.given sink.new)) }
+    ensures later { counted_faults K.faults sink.old ≤ counted_faults K.faults sink.new }
+    ensures cause { IfErr result (λ stop. stop.fault ≡ Fault.Failed → Rose (counted_faults K.faults sink.old) (counted_faults K.faults sink.new)) }
+    ensures ids { OnOk result (length pad.new.public.requests ≤ length pad.old.public.requests) }
+{
+    while let Some(step) = pad.next_work() {
+        match run_step(alloc, pad, &step, words, sink) {
+            Ok(()) => {}
+            Err(stop) => return Err(stop),
+        }
+    }
+    Ok(())
+}
+
+/// Runs a line.
+pub fn run_line<K: Sink>(
+    alloc: Global,
+    pad: &mut Pad,
+    line: &Line,
+    words: &mut Vec<DiskWord>,
+    sink: &mut Counted<K>,
+) -> Result<(), Break>
+    requires built { IsBuilt line.now }
+    requires ids { length pad.old.public.requests < 2 ^ 32 - 2 }
+    ensures ran { OnOk result ((set : Setting) (h : Flat) (rest : Player) → StandsFor pad.old h →
+        Ran set h (line_then set line.now rest) rest pad.new words.old.items words.new.items (counted_given K.given sink.old) (counted_given K.given sink.new)) }
+    ensures broke { OnErr result ((set : Setting) (h : Flat) (rest : Player) → StandsFor pad.old h →
+        BrokeOff set h (line_then set line.now rest) words.old.items words.new.items (counted_given K.given sink.old) (counted_given K.given sink.new)) }
+    ensures later { counted_faults K.faults sink.old ≤ counted_faults K.faults sink.new }
+    ensures cause { IfErr result (λ stop. stop.fault ≡ Fault.Failed → Rose (counted_faults K.faults sink.old) (counted_faults K.faults sink.new)) }
+    ensures ids { OnOk result (length pad.new.public.requests ≤ length pad.old.public.requests + 1) }
+{
+    match line {
+        Line::Auto => run_auto(alloc, pad, words, sink),
+        Line::Do(step) => run_step(alloc, pad, step, words, sink),
+    }
+}
+
+/// How a run over lines went: how many were run, and why it broke off, if it did.
+#[derive(Clone, Copy, Debug)]
+pub struct Course {
+    pub lines: u32,
+    pub fault: Option<Fault>,
+}
+
+/// Runs all the lines.
+pub fn run_lines<K: Sink>(
+    alloc: Global,
+    pad: &mut Pad,
+    lines: &[Line],
+    words: &mut Vec<DiskWord>,
+    sink: &mut Counted<K>,
+) -> Course
+    requires built { All IsBuilt lines.now }
+    requires fresh { pad.old.public.requests ≡ [] }
+    requires few { length lines.now ≤ 1048576 }
+    ensures ran { IfNone result.fault ((set : Setting) (h : Flat) → StandsFor pad.old h →
+        Ran set h (play set lines.now) (play set []) pad.new words.old.items words.new.items (counted_given K.given sink.old) (counted_given K.given sink.new)) }
+    ensures broke { OnSome result.fault ((set : Setting) (h : Flat) → StandsFor pad.old h →
+        BrokeOff set h (play set lines.now) words.old.items words.new.items (counted_given K.given sink.old) (counted_given K.given sink.new)) }
+    ensures lines { result.lines ≤ length lines.now }
+    ensures all { IfNone result.fault (result.lines ≡ length lines.now) }
+    ensures later { counted_faults K.faults sink.old ≤ counted_faults K.faults sink.new }
+    ensures cause { result.fault ≡ Some Fault.Failed → Rose (counted_faults K.faults sink.old) (counted_faults K.faults sink.new) }
+{
+    let mut count = 0;
+    for line in lines {
+        match run_line(alloc, pad, line, words, sink) {
+            Ok(()) => count += 1,
+            Err(stop) => {
+                if stop.taken && is_run(pad, line) {
+                    count += 1;
+                }
+                return Course {
+                    lines: count,
+                    fault: Some(stop.fault),
+                };
+            }
+        }
+    }
+    Course {
+        lines: count,
+        fault: None,
+    }
+}
+
+// Whether all steps of the line that was begun are taken.
+fn is_run(pad: &Pad, line: &Line) -> bool {
+    match line {
+        Line::Auto => pad.next_work().is_none(),
+        Line::Do(_) => true,
+    }
+}

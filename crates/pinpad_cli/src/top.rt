@@ -1,0 +1,154 @@
+// The whole of the program.
+ghost use Rattle.std.specs.Prelude.{◌≡◌, ◌≢◌, ◌≤◌, ◌↔◌, ◌⊎◌, IfNone, IfSome, IsNone, IsSome, List, None, OnSome, Some, [], false, length, true};
+ghost use Rattle.disk_core.specs.Causes.{Rose};
+ghost use Rattle.disk_core.specs.CountedSinks.{counted_given, counted_faults};
+ghost use Rattle.disk_core.specs.Streams.{with_more, GivesFront};
+ghost use Rattle.flat_machine.specs.Machine.{Act};
+ghost use Rattle.flat_machine.specs.State.{ready_opening};
+ghost use Rattle.flat_machine.specs.Twins.{Twins};
+ghost use Rattle.flat_machine.specs.Works.{Setting};
+ghost use Rattle.pinpad_cli.specs.CommandLine.{is_replay as is_replay_form};
+ghost use Rattle.pinpad_cli.specs.Runs.{has_word_per_step, line_count, steps_of, text_of};
+ghost use Rattle.pinpad_cli.specs.Script.{lines_of};
+
+use crate::cutting::script_lines;
+use crate::reading::read_all;
+use crate::running::{Course, Fault, run_lines};
+use disk_core::{Counted, Sink, Source};
+use flat_machine::laws::twins::twins_print_alike;
+use pad_machine::Pad;
+use pad_steps::Words;
+use std::alloc::Global;
+
+/// How a run ended: its status, a number of lines, and the words of its steps in order.
+#[derive(Drop)]
+pub struct Ended {
+    pub status: u8,
+    pub line: u32,
+    pub words: Words,
+}
+
+/// Replays the script that the source has, and gives its transcript to the sink.
+///
+/// The status is 0 where all was run and printed; 1 where the script is outside the grammar; 2 where the words of
+/// the command line are not `replay`; 3 where the source failed; 4 where the sink failed; 5 where memory was wanting.
+/// `line` is the number of lines that were run.
+pub fn run_pinpad<S: Source, K: Sink>(
+    alloc: Global,
+    words: &[String],
+    source: &mut S,
+    sink: &mut Counted<K>,
+) -> Ended
+    ensures statuses { result.status ≤ 5 }
+
+    // Usage: exactly by the words, and nothing is read, given or run.
+    ensures usage { (result.status ≡ 2) ↔ (is_replay_form words.now ≡ false) }
+    ensures usage_reads_nothing { result.status ≡ 2 → source.new ≡ source.old }
+    ensures usage_gives_nothing { result.status ≡ 2 → sink.new ≡ sink.old }
+    ensures usage_runs_nothing { result.status ≡ 2 → result.words ≡ [] }
+
+    // All was run: the source was read to its end, there is a word for each step, and the text of the steps was given.
+    ensures read_to_end { result.status ≡ 0 → OnSome (S.left source.old) (S.left source.new ≡ Some []) }
+    ensures whole { result.status ≡ 0 → IfSome (S.left source.old) (λ s. (set : Setting) → has_word_per_step set s result.words ≡ true) }
+    ensures lines { result.status ≡ 0 → IfSome (S.left source.old) (λ s. result.line ≡ line_count (lines_of s)) }
+    ensures printed { result.status ≡ 0 → IfSome (S.left source.old) (λ s. (set : Setting) →
+        counted_given K.given sink.new ≡ with_more (counted_given K.given sink.old) (text_of set (steps_of set s result.words))) }
+
+    // The same bytes are the text of every twin of the steps.
+    ensures twins { result.status ≡ 0 → IfSome (S.left source.old) (λ s. (set : Setting) (b : List Act) → Twins set ready_opening (steps_of set s result.words) b →
+        counted_given K.given sink.new ≡ with_more (counted_given K.given sink.old) (text_of set b)) }
+
+    // In every status a front of that text was given.
+    ensures front { IfSome (S.left source.old) (λ s. (set : Setting) →
+        GivesFront (counted_given K.given sink.old) (counted_given K.given sink.new) (text_of set (steps_of set s result.words))) }
+    ensures twin_front { IfSome (S.left source.old) (λ s. (set : Setting) (b : List Act) → Twins set ready_opening (steps_of set s result.words) b →
+        GivesFront (counted_given K.given sink.old) (counted_given K.given sink.new) (text_of set b)) }
+
+    // A script outside the grammar: nothing is given, and no other status comes but by a fault of the source or want of memory.
+    ensures outside { result.status ≡ 1 → IfSome (S.left source.old) (λ s. lines_of s ≡ None) }
+    ensures outside_gives_nothing { result.status ≡ 1 → sink.new ≡ sink.old }
+    ensures outside_line { result.status ≡ 1 → result.line ≡ 0 }
+    ensures inside { (result.status ≡ 0) ⊎ (result.status ≡ 4) → IfSome (S.left source.old) (λ s. IsSome (lines_of s)) }
+
+    // Each fault has its cause.
+    ensures source_fault { result.status ≡ 3 → Rose (S.faults source.old) (S.faults source.new) }
+    ensures sink_fault { result.status ≡ 4 → Rose (counted_faults K.faults sink.old) (counted_faults K.faults sink.new) }
+{
+    if !is_replay(words) {
+        return stopped(alloc, 2);
+    }
+    twins_print_alike();
+    match read_all(alloc, source) {
+        Ok(text) => run_script(alloc, text.items(), sink),
+        Err(Fault::Failed) => stopped(alloc, 3),
+        Err(Fault::NoMemory) => stopped(alloc, 5),
+    }
+}
+
+// Runs a script.
+fn run_script<K: Sink>(alloc: Global, script: &[u8], sink: &mut Counted<K>) -> Ended
+    ensures statuses { (result.status ≢ 2) × (result.status ≢ 3) × (result.status ≤ 5) }
+    ensures outside { result.status ≡ 1 → lines_of script.now ≡ None }
+    ensures inside { (result.status ≡ 0) ⊎ (result.status ≡ 4) → IsSome (lines_of script.now) }
+    ensures outside_gives_nothing { result.status ≡ 1 → sink.new ≡ sink.old }
+    ensures outside_line { result.status ≡ 1 → result.line ≡ 0 }
+    ensures whole { result.status ≡ 0 → (set : Setting) → has_word_per_step set script.now result.words ≡ true }
+    ensures lines { result.status ≡ 0 → result.line ≡ line_count (lines_of script.now) }
+    ensures printed { result.status ≡ 0 → (set : Setting) → counted_given K.given sink.new ≡ with_more (counted_given K.given sink.old) (text_of set (steps_of set script.now result.words)) }
+    ensures front { (set : Setting) → GivesFront (counted_given K.given sink.old) (counted_given K.given sink.new) (text_of set (steps_of set script.now result.words)) }
+    ensures cause { result.status ≡ 4 → Rose (counted_faults K.faults sink.old) (counted_faults K.faults sink.new) }
+{
+    let Ok(found) = script_lines(alloc, script) else {
+        return stopped(alloc, 5);
+    };
+    let Some(lines) = found else {
+        return stopped(alloc, 1);
+    };
+    let Ok(mut pad) = Pad::new(alloc) else {
+        return stopped(alloc, 5);
+    };
+    let mut words = Vec::new(alloc);
+    let course = run_lines(alloc, &mut pad, lines.as_slice(), &mut words, sink);
+    Ended {
+        status: status_of(course),
+        line: course.lines,
+        words: Words::of(words),
+    }
+}
+
+// The status of a run over lines.
+fn status_of(course: Course) -> u8
+    ensures whole { (result ≡ 0) ↔ (course.fault ≡ None) }
+    ensures failed { (result ≡ 4) ↔ (course.fault ≡ Some Fault.Failed) }
+    ensures memory { (result ≡ 5) ↔ (course.fault ≡ Some Fault.NoMemory) }
+    ensures statuses { (result ≡ 0) ⊎ ((result ≡ 4) ⊎ (result ≡ 5)) }
+{
+    match course.fault {
+        None => 0,
+        Some(Fault::Failed) => 4,
+        Some(Fault::NoMemory) => 5,
+    }
+}
+
+// The words are the one form.
+fn is_replay(words: &[String]) -> bool
+    ensures { result ≡ is_replay_form words.now }
+{
+    match words {
+        [word] => word.as_str() == "replay",
+        _ => false,
+    }
+}
+
+// A run that ended before a line was run.
+fn stopped(alloc: Global, status: u8) -> Ended
+    ensures status { result.status ≡ status }
+    ensures line { result.line ≡ 0 }
+    ensures words { result.words ≡ [] }
+{
+    Ended {
+        status,
+        line: 0,
+        words: Words::empty(alloc),
+    }
+}
