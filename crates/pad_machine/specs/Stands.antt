@@ -12,7 +12,7 @@ use Rattle.pad_steps.specs.declared.commands.Command.{Command}
 use Rattle.pad_steps.specs.declared.commands.EntryKind.TheVariants.{Pin}
 use Rattle.pad_steps.specs.declared.steps.Step.{Step}
 use Rattle.pad_steps.specs.declared.steps.Step.TheVariants as step
-use Rattle.std.specs.Prelude.{List, None, [], false, ℕ, ◌+◌, ◌≡◌, ◌∷◌}
+use Rattle.std.specs.Prelude.{true, Bool, List, None, [], false, ℕ, ◌+◌, ◌≡◌, ◌∷◌}
 
 -- what the pad keeps is that of this state
 abbrev pub StandsFor : Kept → Flat → Type 0
@@ -32,6 +32,23 @@ work_left [] = 0
 work_left (Waiting asked ∷ rows) = 2 + work_left rows
 work_left (InWork asked ∷ rows) = 1 + work_left rows
 work_left (Gone id session reply ∷ rows) = work_left rows
+
+-- the step is a press
+abbrev pub is_press : Step → Bool
+is_press (step.Open session) = false
+is_press (step.Close session) = false
+is_press (step.Listen session classes) = false
+is_press (step.Lock session) = false
+is_press (step.Unlock session) = false
+is_press (step.Submit session limit command) = false
+is_press (step.Cancel session id) = false
+is_press step.Begin = false
+is_press step.Finish = false
+is_press (step.Press key) = true
+is_press (step.Tick ticks) = false
+is_press (step.Ask session question) = false
+is_press step.Off = false
+is_press step.Boot = false
 
 -- the ids that a step may draw
 abbrev pub draws : Step → ℕ

@@ -1,5 +1,5 @@
 //! The pad and its step.
-ghost use Rattle.std.specs.Prelude.{◌≡◌, ◌<◌, ◌≤◌, ◌+◌, ◌-◌, ◌^◌, ◌++◌, [], IsTrue, IfOk, IfSome, OnOk, OnErr, Some, false, length};
+ghost use Rattle.std.specs.Prelude.{◌≡◌, ◌<◌, ◌≤◌, ◌+◌, ◌-◌, ◌^◌, ◌++◌, [], IsTrue, IfOk, IfSome, IsOk, OnOk, OnErr, Some, false, length};
 ghost use Rattle.pad_steps.specs.Formed.{is_well_formed, is_well_formed_command};
 ghost use Rattle.pad_steps.specs.declared.steps.Step.{Step};
 ghost use Rattle.pad_steps.specs.declared.steps.DiskWord.TheVariants.{Quiet};
@@ -13,7 +13,7 @@ ghost use Rattle.flat_machine.specs.RequestSteps.{next_submit};
 ghost use Rattle.flat_machine.specs.EntrySteps.{next_begin};
 ghost use Rattle.flat_machine.specs.Machine.{next, masked, next_work, fits, release};
 ghost use Rattle.flat_machine.specs.Twins.{Alike, AlikeAfter, TwinSteps};
-ghost use Rattle.pad_machine.specs.Stands.{StandsFor, running_of, work_left, draws};
+ghost use Rattle.pad_machine.specs.Stands.{StandsFor, draws, is_press, running_of, work_left};
 
 use crate::book::{enter, is_open, listen, say, send};
 use crate::digits::PinDigits;
@@ -94,6 +94,9 @@ impl Pad {
             AlikeAfter (next set h step.now a.word) (next set g t a.word)) }
         ensures err { OnErr result ((self.new ≡ self.old) × (out.new.items ≡ out.old.items)) }
 
+        // A press takes no memory where two places are spare.
+        ensures press { IsTrue (is_press step.now) → 2 ≤ out.old.spare → IsOk result }
+
         // A step that was due leaves less to do, and a step draws one id at most.
         ensures less { OnOk result (is_off self.old.public.device ≡ false → next_work self.old.public ≡ Some step.now →
             work_left self.new.public.requests < work_left self.old.public.requests) }
@@ -114,6 +117,7 @@ impl Pad {
         ensures state { OnOk result ((set : Setting) → self.new ≡ (kept_next set self.old step.now Quiet).state) }
         ensures outs { OnOk result ((set : Setting) → out.new.items ≡ out.old.items ++ (kept_next set self.old step.now Quiet).outs) }
         ensures err { OnErr result ((self.new ≡ self.old) × (out.new.items ≡ out.old.items)) }
+        ensures press { IsTrue (is_press step.now) → 2 ≤ out.old.spare → IsOk result }
     {
         match step {
             Step::Open(session) => self.open(*session, out),
@@ -251,6 +255,7 @@ impl Pad {
         ensures state { OnOk result ((set : Setting) → self.new ≡ (kept_press_in set self.old (running self.old.public) key).state) }
         ensures outs { OnOk result ((set : Setting) → out.new.items ≡ out.old.items ++ (kept_press_in set self.old (running self.old.public) key).outs) }
         ensures err { OnErr result ((self.new ≡ self.old) × (out.new.items ≡ out.old.items)) }
+        ensures spare { 2 ≤ out.old.spare → IsOk result }
     {
         out.reserve(2)?;
         let Some(entry) = self.requests.running() else {

@@ -129,10 +129,11 @@ impl Outs {
         self.list.as_slice()
     }
 
-    /// Makes room for n more. After want of memory the list is as before.
+    /// Makes room for n more, without memory where so many places are spare. After want of memory the list is as before.
     pub fn reserve(&mut self, n: usize) -> Result<(), NoMemory>
         ensures items { self.new.items ≡ self.old.items }
         ensures room { OnOk result (n ≤ self.new.spare) }
+        ensures spare { n ≤ self.old.spare → IsOk result }
     {
         match self.list.reserve(n) {
             Ok(()) => Ok(()),
