@@ -48,7 +48,7 @@ pub record ActsAlike (e : Entry) (a b : Key) : Type 0 where
 acts_same : (e : Entry) (a : Key) → ActsAlike e a a
 acts_same e a = record { active = refl; seen = λ n. refl; count = λ xs ys same. length-after_value e (digit_in e.kind a) a xs ys same }
 
-shown_pin : (s : EntryKind) (k : Key) → is_pin s ≡ true → shown_digit s k ≡ shown.Masked
+pub shown_pin : (s : EntryKind) (k : Key) → is_pin s ≡ true → shown_digit s k ≡ shown.Masked
 shown_pin entry_kind.Pin k is = refl
 shown_pin entry_kind.Figures k is = cc
 shown_pin entry_kind.Part k is = cc

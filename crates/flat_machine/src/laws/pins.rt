@@ -1,0 +1,33 @@
+//! What a PIN entry says, and when a PIN is held.
+
+ghost use Rattle.std.specs.Prelude.{◌≡◌, ◌∷◌, [], IsTrue, List, None, Some, length};
+ghost use Rattle.std.specs.List.{list_all};
+ghost use Rattle.key_source.specs.declared.Key.{Key};
+ghost use Rattle.pad_steps.specs.declared.answers.Shown.{Shown};
+ghost use Rattle.pad_steps.specs.declared.answers.Completion.TheVariants as completions;
+ghost use Rattle.pad_steps.specs.declared.steps.Step.{Step};
+ghost use Rattle.pad_steps.specs.declared.steps.Step.TheVariants as steps;
+ghost use Rattle.pad_steps.specs.declared.steps.DiskWord.{DiskWord};
+ghost use Rattle.flat_machine.specs.declared.types.Seen.TheVariants.{Ended};
+ghost use Rattle.flat_machine.specs.Entries.{Entry, entered, active_seen, is_pin, is_secret};
+ghost use Rattle.flat_machine.specs.Works.{Setting};
+ghost use Rattle.flat_machine.specs.State.{Flat, Running, running};
+ghost use Rattle.flat_machine.specs.Machine.{next, line_of};
+ghost use Rattle.flat_machine.specs.PinFacts.{hides_digits, PinAfter, leaves_pin};
+
+/// No digit of a PIN entry stands in a line: a masked press is printed without its key, KEY events show no digit, and the reply has the number of digits alone.
+pub fn pin_entry_hides()
+    ensures outs { (set : Setting) (state : Flat) (key : Key) (word : DiskWord) (current : Running) → running state.public ≡ Some current → IsTrue (is_pin current.entry.kind) → IsTrue (list_all hides_digits (next set state (steps.Press key) word).outs) }
+    ensures press { (set : Setting) (state : Flat) (key : Key) (word : DiskWord) (current : Running) → running state.public ≡ Some current → IsTrue (is_secret current.entry key) → (line_of set state (record { step = steps.Press key; word = word })).shown ≡ None }
+{}
+
+/// A PIN comes to be held by the press alone that ends a PIN entry, and is then the digits entered; CANCEL leaves none.
+pub fn pin_is_held()
+    ensures after { (set : Setting) (state : Flat) (step : Step) (word : DiskWord) → PinAfter state step (next set state step word).state.held }
+    ensures canceled { (entry : Entry) (presses : List Key) (key : Key) (shown : Shown) → active_seen entry (length (entered entry presses)) key ≡ Ended shown completions.Cancel → entered entry (key ∷ presses) ≡ [] }
+{}
+
+/// Steps of sessions, Submit, Cancel, Tick and Ask leave the held PIN as it is.
+pub fn pin_is_left()
+    ensures { (set : Setting) (state : Flat) (step : Step) (word : DiskWord) → IsTrue (leaves_pin step) → (next set state step word).state.held ≡ state.held }
+{}
