@@ -5,6 +5,7 @@ pub mod HistoryLemmas
 pub mod KeptLemmas
 pub mod KeyRuns
 pub mod LengthLemmas
+pub mod LengthRuns
 pub mod PinLemmas
 pub mod PinRuns
 pub mod PowerRuns

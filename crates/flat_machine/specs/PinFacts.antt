@@ -1,8 +1,11 @@
 -- Words for what is so of PINs and key parts in every run.
 use Rattle.flat_machine.specs.Entries.{active_seen, entered, is_pin}
 use Rattle.flat_machine.specs.RequestSteps.{command_refusal, is_part_count}
+use Rattle.flat_machine.specs.Requests.{pending_where}
 use Rattle.flat_machine.specs.State.{Flat, Running, running}
 use Rattle.flat_machine.specs.Works.{Works}
+use Rattle.flat_machine.specs.declared.types.Asked.{Asked}
+use Rattle.flat_machine.specs.declared.types.Device.TheVariants.{Off}
 use Rattle.flat_machine.specs.declared.types.Seen.TheVariants.{Ended}
 use Rattle.key_source.specs.Keys.{has_key}
 use Rattle.key_source.specs.declared.Key.{Key}
@@ -102,8 +105,10 @@ leaves_pin (steps.Ask session question) = true
 leaves_pin steps.Off = false
 leaves_pin steps.Boot = false
 
--- nothing secret is left: no PIN, no presses, no key part, and maintain is off
-pub record Cleared (state : Flat) : Type 0 where
+-- the device is off, and nothing is pending or held: no PIN, no key part, and maintain is off
+pub record PoweredOff (state : Flat) : Type 0 where
+  pub device : state.public.device ≡ Off
+  pub pending : pending_where (λ (request : Asked Command). true) state.public.requests ≡ []
   pub held : state.held ≡ []
   pub part : state.public.part ≡ []
   pub maintain : state.public.maintain ≡ false
