@@ -85,7 +85,7 @@ pub record PinOf (c : Command) (e : Entry) : Type 0 where
 not_pin : (x : Entry) (c : Command) (e : Entry) → is_pin x.kind ≡ false → Some x ≡ Some e → is_pin e.kind ≡ true → PinOf c e
 not_pin x c e no_pin s is = absurd (false_is_not_true (sym no_pin ∙ ap (λ (y : Entry). is_pin y.kind) (some_entry x e s) ∙ is))
 
-pin_of : (c : Command) (e : Entry) → entry_of c ≡ Some e → is_pin e.kind ≡ true → PinOf c e
+pub pin_of : (c : Command) (e : Entry) → entry_of c ≡ Some e → is_pin e.kind ≡ true → PinOf c e
 pin_of (command.GetPin rules) e s is = record { rules = rules; command = refl; greatest = ap (λ (x : Entry). x.greatest) (sym (some_entry _ e s)) }
 pin_of (command.GetData rules) e s is = not_pin (entry_by entry_kind.Figures rules) _ e refl s is
 pin_of (command.SecureKeyEntry rules) e s is = not_pin (record { kind = entry_kind.Part; least = rules.count; greatest = rules.count; auto_end = rules.auto_end; active = rules.active; terminate = rules.terminate; check = rules.verify }) _ e refl s is
@@ -101,7 +101,7 @@ pin_of command.RsaImport e s is = absurd (none_is_not_some e s)
 same_asked : (b a : Asked Command) → Some b ≡ Some a → b ≡ a
 same_asked b a e = cc
 
-pass_first : (x y : Bool) → (x && y) ≡ true → x ≡ true
+pub pass_first : (x y : Bool) → (x && y) ≡ true → x ≡ true
 pass_first true y h = refl
 pass_first false y h = cc
 
@@ -109,7 +109,7 @@ pass_second : (x y : Bool) → (x && y) ≡ true → y ≡ true
 pass_second true y h = h
 pass_second false y h = cc
 
-pass-working : (t : Command → Bool) (rows : List (Row Command Reply)) (a : Asked Command) → pending_pass t rows ≡ true → working rows ≡ Some a → t a.command ≡ true
+pub pass-working : (t : Command → Bool) (rows : List (Row Command Reply)) (a : Asked Command) → pending_pass t rows ≡ true → working rows ≡ Some a → t a.command ≡ true
 pass-working t [] a h w = cc
 pass-working t (Waiting b ∷ rows) a h w = pass-working t rows a (pass_second (t b.command) (pending_pass t rows) h) w
 pass-working t (InWork b ∷ rows) a h w = ap (λ (x : Asked Command). t x.command) (sym (same_asked b a w)) ∙ pass_first (t b.command) (pending_pass t rows) h

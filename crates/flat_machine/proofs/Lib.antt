@@ -1,6 +1,7 @@
 pub mod EntryLemmas
 pub mod EntryRuns
 pub mod ExampleTwins
+pub mod HeldRuns
 pub mod HistoryLemmas
 pub mod KeptLemmas
 pub mod KeyRuns
@@ -8,6 +9,7 @@ pub mod LengthLemmas
 pub mod LengthRuns
 pub mod PinLemmas
 pub mod PinRuns
+pub mod PowerLemmas
 pub mod PowerRuns
 pub mod PressWalk
 pub mod QueueRuns

@@ -60,7 +60,7 @@ hides_if : (b : Bool) (s t : Seen) → seen_hides s ≡ true → seen_hides t �
 hides_if true s t h k = h
 hides_if false s t h k = k
 
-pin_is_no_part : (k : EntryKind) → is_pin k ≡ true → is_key_part k ≡ false
+pub pin_is_no_part : (k : EntryKind) → is_pin k ≡ true → is_key_part k ≡ false
 pin_is_no_part entry_kind.Pin e = refl
 pin_is_no_part entry_kind.Figures e = refl
 pin_is_no_part entry_kind.Part e = cc

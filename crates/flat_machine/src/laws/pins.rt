@@ -1,6 +1,6 @@
 //! What a PIN entry says, and when a PIN is held.
 
-ghost use Rattle.std.specs.Prelude.{◌≡◌, ◌∷◌, [], IsTrue, List, None, Some, length};
+ghost use Rattle.std.specs.Prelude.{◌≡◌, ◌∷◌, ◌≤◌, [], IsTrue, List, None, Some, false, length, ℕ};
 ghost use Rattle.std.specs.List.{list_all};
 ghost use Rattle.key_source.specs.declared.Key.{Key};
 ghost use Rattle.pad_steps.specs.declared.answers.Shown.{Shown};
@@ -8,12 +8,15 @@ ghost use Rattle.pad_steps.specs.declared.answers.Completion.TheVariants as comp
 ghost use Rattle.pad_steps.specs.declared.steps.Step.{Step};
 ghost use Rattle.pad_steps.specs.declared.steps.Step.TheVariants as steps;
 ghost use Rattle.pad_steps.specs.declared.steps.DiskWord.{DiskWord};
+ghost use Rattle.pad_steps.specs.declared.steps.DiskWord.TheVariants as words;
 ghost use Rattle.flat_machine.specs.declared.types.Seen.TheVariants.{Ended};
 ghost use Rattle.flat_machine.specs.Entries.{Entry, entered, active_seen, is_pin, is_secret};
 ghost use Rattle.flat_machine.specs.Works.{Setting};
-ghost use Rattle.flat_machine.specs.State.{Flat, Running, running};
-ghost use Rattle.flat_machine.specs.Machine.{next, line_of};
-ghost use Rattle.flat_machine.specs.PinFacts.{hides_digits, PinAfter, leaves_pin};
+ghost use Rattle.flat_machine.specs.State.{Flat, Running, running, is_off};
+ghost use Rattle.flat_machine.specs.Machine.{Act, next, line_of, run_from, fits};
+ghost use Rattle.flat_machine.specs.Facts.{IsStart};
+ghost use Rattle.flat_machine.specs.Standard.{all_decimal};
+ghost use Rattle.flat_machine.specs.PinFacts.{hides_digits, PinAfter, PoweredOff, leaves_pin};
 
 /// No digit of a PIN entry stands in a line: a masked press is printed without its key, KEY events show no digit, and the reply has the number of digits alone.
 pub fn pin_entry_hides()
@@ -30,4 +33,16 @@ pub fn pin_is_held()
 /// Steps of sessions, Submit, Cancel, Tick and Ask leave the held PIN as it is.
 pub fn pin_is_left()
     ensures { (set : Setting) (state : Flat) (step : Step) (word : DiskWord) → IsTrue (leaves_pin step) → (next set state step word).state.held ≡ state.held }
+{}
+
+/// A held PIN has at most 16 digits, each a decimal digit.
+pub fn held_digits()
+    ensures few { (set : Setting) (start : Flat) (acts : List Act) → IsStart start → length (run_from set start acts).held ≤ 16 }
+    ensures decimal { (set : Setting) (start : Flat) (acts : List Act) → IsStart start → IsTrue (all_decimal (run_from set start acts).held) }
+{}
+
+/// After a cut in any step, and after Off, the device is off, nothing is pending, no PIN and no key part is left, and maintain is off.
+pub fn power_goes()
+    ensures cut { (set : Setting) (state : Flat) (step : Step) (count : ℕ) → IsTrue (fits set state.public step (words.Cut count)) → PoweredOff (next set state step (words.Cut count)).state }
+    ensures off { (set : Setting) (state : Flat) (word : DiskWord) → is_off state.public.device ≡ false → PoweredOff (next set state steps.Off word).state }
 {}
