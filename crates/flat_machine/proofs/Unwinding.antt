@@ -6,7 +6,7 @@ use Rattle.flat_machine.specs.Entries.{Entry, active_seen, entered, is_key_part,
 use Rattle.flat_machine.specs.EntrySteps.{ends_entry, entry_answer, after_entry, press_in, press_seen}
 use Rattle.flat_machine.specs.Machine.{masked, next, release, secret_in}
 use Rattle.flat_machine.specs.RequestSteps.{is_canceled, next_ask, submit_refusal}
-use Rattle.flat_machine.specs.Requests.{finished, pending_where, same_session, working}
+use Rattle.flat_machine.specs.Requests.{finished, pending_where, working}
 use Rattle.flat_machine.specs.Sessions.{execute_event}
 use Rattle.flat_machine.specs.State.{After, Flat, Public, Running, Said, after_said, is_off, running}
 use Rattle.flat_machine.specs.Twins.{Alike, AlikeAfter, AlikeEntries, AlikeKeys, AlikePresses}
