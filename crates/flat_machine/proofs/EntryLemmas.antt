@@ -3,13 +3,13 @@ use Rattle.flat_machine.specs.Entries.{Entry, active_seen, after_digit, after_ot
 use Rattle.flat_machine.specs.Twins.{AlikeKeys, AlikePresses}
 use Rattle.key_source.specs.Keys.{has_key}
 use Rattle.key_source.specs.declared.Key.{Key}
-use Rattle.pad_steps.specs.declared.commands.EntryKind.{EntryKind}
 use Rattle.pad_steps.specs.declared.answers.Shown.{Shown}
+use Rattle.pad_steps.specs.declared.commands.EntryKind.{EntryKind}
 use Rattle.std.proofs.Common.{ap, arith, inl, inr, length-append, length-take, subst, sym, ◌∙◌}
 use Rattle.std.specs.Prelude.{Bool, List, None, Option, Some, [], cond, false, is_some, length, nat_lt, refl, true, ℕ, ◌&&◌, ◌++◌, ◌-◌, ◌∷◌, ◌≡◌}
 use Rattle.key_source.specs.declared.Key.TheVariants as keypad
-use Rattle.pad_steps.specs.declared.commands.EntryKind.TheVariants as entry_kind
 use Rattle.pad_steps.specs.declared.answers.Shown.TheVariants as shown
+use Rattle.pad_steps.specs.declared.commands.EntryKind.TheVariants as entry_kind
 
 and_parts : (x y z : Bool) → (x && y && z) ≡ true → (x ≡ true) × (y ≡ true) × (z ≡ true)
 and_parts true true true h = (refl, refl, refl)

@@ -1,7 +1,9 @@
 -- The held PIN in every run, and what a cut or Off leaves.
+use Rattle.flat_machine.proofs.BoolLemmas.{both}
 use Rattle.flat_machine.proofs.LengthLemmas.{length-entered-le}
 use Rattle.flat_machine.proofs.LengthRuns.{pass-working, pass_first, pin_of, submits_pass}
-use Rattle.flat_machine.proofs.PinLemmas.{pin_after, pin_is_no_part}
+use Rattle.flat_machine.proofs.PinHeld.{pin_after}
+use Rattle.flat_machine.proofs.PinShown.{pin_is_no_part}
 use Rattle.flat_machine.proofs.PressWalk.{InWorkOf, running_request}
 use Rattle.flat_machine.proofs.RequestRuns.{from_start}
 use Rattle.flat_machine.proofs.SoundLemmas.{next_sound, opening_sound, ready_opening_sound}

@@ -1,4 +1,5 @@
 -- Runs one after another, and the store's history in twins.
+use Rattle.flat_machine.proofs.BoolLemmas.{both}
 use Rattle.flat_machine.proofs.TwinRuns.{heads, twin_next, twin_shape}
 use Rattle.flat_machine.proofs.Unwinding.{alike_self, masked_press}
 use Rattle.flat_machine.specs.Machine.{Act, fits, line_of, lines_from, next, plan, release, releases_from, run_from}

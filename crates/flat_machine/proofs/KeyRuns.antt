@@ -1,5 +1,6 @@
 -- Keys, computed by the definitions alone.
-use Rattle.flat_machine.proofs.RunWords.{beginning, begun_entry, checked, counting_check, counting_key, digit, done, done_on_disk, done_quietly, import_clear, listening_to, mac_under, pin_key, quiet, refused, replies_by, said_after, session_1, unchecked, zero_check, zero_encrypted}
+use Rattle.flat_machine.proofs.RunCommands.{begun_entry, checked, counting_check, digit, done, import_clear, mac_under, pin_key, refused, unchecked, zero_check}
+use Rattle.flat_machine.proofs.RunWords.{beginning, counting_key, done_on_disk, done_quietly, listening_to, quiet, replies_by, said_after, session_1, zero_encrypted}
 use Rattle.flat_machine.specs.Ciphers.{zero_block}
 use Rattle.flat_machine.specs.Machine.{Act}
 use Rattle.pad_steps.specs.declared.commands.Command.{Command}

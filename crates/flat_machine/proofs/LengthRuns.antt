@@ -1,9 +1,11 @@
 -- How long the part buffer and the held PIN are in every run.
+use Rattle.flat_machine.proofs.BoolLemmas.{both}
 use Rattle.flat_machine.proofs.LengthLemmas.{ended_enough, length-entered-le}
 use Rattle.flat_machine.proofs.PressWalk.{InWorkOf, running_request}
 use Rattle.flat_machine.proofs.RequestRuns.{from_start}
 use Rattle.flat_machine.proofs.SoundLemmas.{next_sound, opening_sound, ready_opening_sound}
 use Rattle.flat_machine.proofs.StepWalk.{Walks, walk_begin, walk_cancel, walk_finish, walk_if, walk_if_open, walk_loads, walk_nothing, walk_power, walk_submit, walk_tick}
+use Rattle.flat_machine.proofs.SubmitLemmas.{submit_room}
 use Rattle.flat_machine.specs.Entries.{Entry, active_seen, entered, entry_by, entry_of, greatest_length, is_key_part, is_pin}
 use Rattle.flat_machine.specs.EntrySteps.{press_in, press_seen}
 use Rattle.flat_machine.specs.Facts.{IsStart}
@@ -185,7 +187,7 @@ module _ (ok : Command → Bool) (counted : (rules : PartRules) → IsTrue (ok (
   next_part (step.Listen s c) w = part_own s _ refl
   next_part (step.Lock s) w = part_own s _ refl
   next_part (step.Unlock s) w = part_own s _ (unlock_part s (holds s h.public.line) _ _ refl refl)
-  next_part (step.Submit s limit c) w = part_walk _ (walk_submit h.public (submit_refusal set.works h.public s c) s limit c)
+  next_part (step.Submit s limit c) w = part_walk _ (walk_submit h.public (submit_refusal set.works h.public s c) s limit c (submit_room set.works h.public s c))
   next_part (step.Cancel s id) w = part_walk _ (walk_if_open h.public s _ (walk_cancel h.public s id (pending_where (is_canceled h.public s id) h.public.requests)))
   next_part step.Begin w = part_walk _ (walk_begin h.public)
   next_part step.Finish w = part_walk _ (walk_finish set h.public h.held (working h.public.requests) w refl)

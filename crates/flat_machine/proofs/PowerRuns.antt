@@ -1,5 +1,6 @@
 -- Power, cuts and faults, computed by the definitions alone.
-use Rattle.flat_machine.proofs.RunWords.{all_fit, beginning, begun_entry, block_of, checked, counting_key, done, done_on_disk, done_quietly, entered_0000, fates_by, four_entered, import_clear, pin_block, pin_key, quiet, refused, replies_by, said_after, said_by, session_1, setting, unchecked, with_pin_key, with_word, zero_check, zero_encrypted}
+use Rattle.flat_machine.proofs.RunCommands.{begun_entry, block_of, checked, done, entered_0000, four_entered, import_clear, pin_block, pin_key, refused, unchecked, with_pin_key, zero_check}
+use Rattle.flat_machine.proofs.RunWords.{all_fit, beginning, counting_key, done_on_disk, done_quietly, fates_by, quiet, replies_by, said_after, said_by, session_1, setting, with_word, zero_encrypted}
 use Rattle.flat_machine.specs.Arms.{Cuts, Due}
 use Rattle.flat_machine.specs.Ciphers.{zero_block}
 use Rattle.flat_machine.specs.Machine.{Act, plan, run}

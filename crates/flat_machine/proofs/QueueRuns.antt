@@ -1,5 +1,6 @@
 -- Sessions, the lock, the queue and time, computed by the definitions alone.
-use Rattle.flat_machine.proofs.RunWords.{beginning, begun_entry, digit, done, done_quietly, get_pin, pin_block, pin_key, press_cancel, quiet, refused, said_after, session_1, session_2, setting, with_pin_key}
+use Rattle.flat_machine.proofs.RunCommands.{begun_entry, digit, done, get_pin, pin_block, pin_key, press_cancel, refused, with_pin_key}
+use Rattle.flat_machine.proofs.RunWords.{beginning, done_quietly, quiet, said_after, session_1, session_2, setting}
 use Rattle.flat_machine.specs.Machine.{Act, next_work, run, status}
 use Rattle.pad_steps.specs.declared.answers.Out.{Out}
 use Rattle.std.specs.Prelude.{List, None, Some, [], false, refl, suc, true, zero, ℕ, ◌++◌, ◌+◌, ◌∷◌, ◌≡◌}

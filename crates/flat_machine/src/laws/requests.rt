@@ -5,6 +5,7 @@ ghost use Rattle.std.specs.List.{range_with_len};
 ghost use Rattle.pad_words.specs.declared.numbers.Session.{Session};
 ghost use Rattle.pad_steps.specs.declared.answers.Reply.{Reply};
 ghost use Rattle.flat_machine.specs.declared.types.Row.TheVariants.{Gone};
+ghost use Rattle.flat_machine.specs.Requests.{pending_count};
 ghost use Rattle.flat_machine.specs.Works.{Setting};
 ghost use Rattle.flat_machine.specs.State.{Flat};
 ghost use Rattle.flat_machine.specs.Machine.{Act, run_from, lines_from};
@@ -30,4 +31,9 @@ pub fn replies_stay()
 pub fn one_reply()
     ensures told { (set : Setting) (start : Flat) (acts : List Act) (id : ℕ) → IsStart start → of_id id (endings (outs_of (lines_from set start acts))) ≡ of_id id (kept_endings (run_from set start acts).public.requests) }
     ensures once { (set : Setting) (start : Flat) (acts : List Act) (id : ℕ) → IsStart start → length (of_id id (kept_endings (run_from set start acts).public.requests)) ≤ 1 }
+{}
+
+/// At most 16 requests of a session are pending.
+pub fn queue_bound()
+    ensures { (set : Setting) (start : Flat) (acts : List Act) (session : Session) → IsStart start → pending_count session (run_from set start acts).public.requests ≤ 16 }
 {}

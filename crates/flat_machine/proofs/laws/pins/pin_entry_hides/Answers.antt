@@ -1,4 +1,4 @@
-use Rattle.flat_machine.proofs.PinLemmas as lemma
+use Rattle.flat_machine.proofs.PinShown as lemma
 use Rattle.flat_machine.proofs.laws.pins.pin_entry_hides.Goals as goal
 
 pub returns-clause-outs : goal.returns-clause-outs

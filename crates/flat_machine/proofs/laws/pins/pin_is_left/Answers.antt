@@ -1,4 +1,4 @@
-use Rattle.flat_machine.proofs.PinLemmas as lemma
+use Rattle.flat_machine.proofs.PinHeld as lemma
 use Rattle.flat_machine.proofs.laws.pins.pin_is_left.Goals as goal
 
 pub returns : goal.returns
