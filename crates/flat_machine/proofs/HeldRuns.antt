@@ -1,7 +1,8 @@
 -- The held PIN in every run, and what a cut or Off leaves.
 use Rattle.flat_machine.proofs.BoolLemmas.{both}
+use Rattle.flat_machine.proofs.EntryCommands.{pass-working, pass_first, pin_of}
 use Rattle.flat_machine.proofs.LengthLemmas.{length-entered-le}
-use Rattle.flat_machine.proofs.LengthRuns.{pass-working, pass_first, pin_of, submits_pass}
+use Rattle.flat_machine.proofs.LengthRuns.{submits_pass}
 use Rattle.flat_machine.proofs.PinHeld.{pin_after}
 use Rattle.flat_machine.proofs.PinShown.{pin_is_no_part}
 use Rattle.flat_machine.proofs.PressWalk.{InWorkOf, running_request}

@@ -1,12 +1,13 @@
--- How long the part buffer and the held PIN are in every run.
+-- How long the part buffer is in every run, and that runs are sound.
 use Rattle.flat_machine.proofs.BoolLemmas.{both}
+use Rattle.flat_machine.proofs.EntryCommands.{part_of, pass-working, pass_first}
 use Rattle.flat_machine.proofs.LengthLemmas.{ended_enough, length-entered-le}
 use Rattle.flat_machine.proofs.PressWalk.{InWorkOf, running_request}
 use Rattle.flat_machine.proofs.RequestRuns.{from_start}
 use Rattle.flat_machine.proofs.SoundLemmas.{next_sound, opening_sound, ready_opening_sound}
 use Rattle.flat_machine.proofs.StepWalk.{Walks, walk_begin, walk_cancel, walk_finish, walk_if, walk_if_open, walk_loads, walk_nothing, walk_power, walk_submit, walk_tick}
 use Rattle.flat_machine.proofs.SubmitLemmas.{submit_room}
-use Rattle.flat_machine.specs.Entries.{Entry, active_seen, entered, entry_by, entry_of, greatest_length, is_key_part, is_pin}
+use Rattle.flat_machine.specs.Entries.{Entry, active_seen, entered, is_key_part}
 use Rattle.flat_machine.specs.EntrySteps.{press_in, press_seen}
 use Rattle.flat_machine.specs.Facts.{IsStart}
 use Rattle.flat_machine.specs.Machine.{Act, next, run_from}
@@ -15,109 +16,28 @@ use Rattle.flat_machine.specs.RequestSteps.{command_refusal, invalid_if, is_canc
 use Rattle.flat_machine.specs.Requests.{pending_where, working}
 use Rattle.flat_machine.specs.SessionSteps.{if_open}
 use Rattle.flat_machine.specs.Sessions.{holds, is_open}
-use Rattle.flat_machine.specs.Sound.{Sound, SubmitsOk, allowed, pending_pass}
+use Rattle.flat_machine.specs.Sound.{Sound, SubmitsOk, allowed}
 use Rattle.flat_machine.specs.State.{After, Flat, Public, Running, Said, is_off, running, says}
 use Rattle.flat_machine.specs.Works.{Setting, Works}
-use Rattle.flat_machine.specs.declared.types.Asked.{Asked}
-use Rattle.flat_machine.specs.declared.types.Row.{Row}
-use Rattle.flat_machine.specs.declared.types.Row.TheVariants.{Gone, InWork, Waiting}
 use Rattle.flat_machine.specs.declared.types.Seen.{Seen}
 use Rattle.flat_machine.specs.declared.types.Seen.TheVariants.{Ended, Ignored, Took}
 use Rattle.key_source.specs.Keys.{has_key}
 use Rattle.key_source.specs.declared.Key.{Key}
 use Rattle.pad_steps.specs.declared.answers.Completion.{Completion}
 use Rattle.pad_steps.specs.declared.answers.Refusal.{Refusal}
-use Rattle.pad_steps.specs.declared.answers.Reply.{Reply}
 use Rattle.pad_steps.specs.declared.answers.Shown.{Shown}
 use Rattle.pad_steps.specs.declared.commands.Command.{Command}
-use Rattle.pad_steps.specs.declared.commands.EntryKind.{EntryKind}
-use Rattle.pad_steps.specs.declared.commands.EntryRules.{EntryRules}
 use Rattle.pad_steps.specs.declared.commands.PartRules.{PartRules}
 use Rattle.pad_steps.specs.declared.steps.DiskWord.{DiskWord}
 use Rattle.pad_steps.specs.declared.steps.Step.{Step}
 use Rattle.pad_words.specs.declared.numbers.Session.{Session}
-use Rattle.std.proofs.Common.{ap, arith, inl, inr, subst, sym, ◌∙◌}
-use Rattle.std.specs.Prelude.{Bool, IsTrue, List, None, Option, Some, [], cond, false, if◌then◌else◌, is_some, length, not, refl, true, ℕ, ◌&&◌, ◌==◌, ◌||◌, ◌∷◌, ◌≡◌, ◌≤◌, ◌⊎◌}
+use Rattle.std.proofs.Common.{arith, inl, inr, subst}
+use Rattle.std.specs.Prelude.{Bool, IsTrue, List, None, Option, Some, [], cond, false, if◌then◌else◌, is_some, length, not, refl, true, ℕ, ◌==◌, ◌||◌, ◌∷◌, ◌≡◌, ◌≤◌, ◌⊎◌}
 use Rattle.pad_steps.specs.declared.answers.Out.TheVariants as out
 use Rattle.pad_steps.specs.declared.answers.Refusal.TheVariants as refusal
 use Rattle.pad_steps.specs.declared.answers.Told.TheVariants as told
 use Rattle.pad_steps.specs.declared.commands.Command.TheVariants as command
-use Rattle.pad_steps.specs.declared.commands.EntryKind.TheVariants as entry_kind
 use Rattle.pad_steps.specs.declared.steps.Step.TheVariants as step
-
--- a key part in work has a count that passed Submit
-
-some_entry : (e f : Entry) → Some e ≡ Some f → e ≡ f
-some_entry e f s = cc
-
-false_is_not_true : false ≡ true → ⊥
-false_is_not_true e = cc
-
-none_is_not_some : (e : Entry) → None ≡ Some e → ⊥
-none_is_not_some e s = cc
-
--- an entry of a key part is one of SECUREKEY_ENTRY, and of a PIN one of GET_PIN
-pub record PartOf (c : Command) (e : Entry) : Type 0 where
-  pub rules : PartRules
-  pub command : c ≡ command.SecureKeyEntry rules
-  pub least : e.least ≡ rules.count
-  pub greatest : e.greatest ≡ rules.count
-
-not_part : (k : EntryKind) (rules : EntryRules) (c : Command) (e : Entry) → is_key_part k ≡ false → Some (entry_by k rules) ≡ Some e → is_key_part e.kind ≡ true → PartOf c e
-not_part k rules c e no_part s part = absurd (false_is_not_true (sym no_part ∙ ap (λ (x : Entry). is_key_part x.kind) (some_entry (entry_by k rules) e s) ∙ part))
-
-part_of : (c : Command) (e : Entry) → entry_of c ≡ Some e → is_key_part e.kind ≡ true → PartOf c e
-part_of (command.GetPin rules) e s part = not_part entry_kind.Pin rules _ e refl s part
-part_of (command.GetData rules) e s part = not_part entry_kind.Figures rules _ e refl s part
-part_of (command.SecureKeyEntry rules) e s part = record { rules = rules; command = refl; least = ap (λ (x : Entry). x.least) (sym (some_entry _ e s)); greatest = ap (λ (x : Entry). x.greatest) (sym (some_entry _ e s)) }
-part_of (command.MaintainPin on) e s part = absurd (none_is_not_some e s)
-part_of (command.Pin r) e s part = absurd (none_is_not_some e s)
-part_of (command.Crypt r) e s part = absurd (none_is_not_some e s)
-part_of (command.ImportKey r) e s part = absurd (none_is_not_some e s)
-part_of (command.DeleteKey name) e s part = absurd (none_is_not_some e s)
-part_of command.Init e s part = absurd (none_is_not_some e s)
-part_of command.Reset e s part = absurd (none_is_not_some e s)
-part_of command.RsaImport e s part = absurd (none_is_not_some e s)
-
-pub record PinOf (c : Command) (e : Entry) : Type 0 where
-  pub rules : EntryRules
-  pub command : c ≡ command.GetPin rules
-  pub greatest : e.greatest ≡ greatest_length rules.max
-
-not_pin : (x : Entry) (c : Command) (e : Entry) → is_pin x.kind ≡ false → Some x ≡ Some e → is_pin e.kind ≡ true → PinOf c e
-not_pin x c e no_pin s is = absurd (false_is_not_true (sym no_pin ∙ ap (λ (y : Entry). is_pin y.kind) (some_entry x e s) ∙ is))
-
-pub pin_of : (c : Command) (e : Entry) → entry_of c ≡ Some e → is_pin e.kind ≡ true → PinOf c e
-pin_of (command.GetPin rules) e s is = record { rules = rules; command = refl; greatest = ap (λ (x : Entry). x.greatest) (sym (some_entry _ e s)) }
-pin_of (command.GetData rules) e s is = not_pin (entry_by entry_kind.Figures rules) _ e refl s is
-pin_of (command.SecureKeyEntry rules) e s is = not_pin (record { kind = entry_kind.Part; least = rules.count; greatest = rules.count; auto_end = rules.auto_end; active = rules.active; terminate = rules.terminate; check = rules.verify }) _ e refl s is
-pin_of (command.MaintainPin on) e s is = absurd (none_is_not_some e s)
-pin_of (command.Pin r) e s is = absurd (none_is_not_some e s)
-pin_of (command.Crypt r) e s is = absurd (none_is_not_some e s)
-pin_of (command.ImportKey r) e s is = absurd (none_is_not_some e s)
-pin_of (command.DeleteKey name) e s is = absurd (none_is_not_some e s)
-pin_of command.Init e s is = absurd (none_is_not_some e s)
-pin_of command.Reset e s is = absurd (none_is_not_some e s)
-pin_of command.RsaImport e s is = absurd (none_is_not_some e s)
-
-same_asked : (b a : Asked Command) → Some b ≡ Some a → b ≡ a
-same_asked b a e = cc
-
-pub pass_first : (x y : Bool) → (x && y) ≡ true → x ≡ true
-pass_first true y h = refl
-pass_first false y h = cc
-
-pass_second : (x y : Bool) → (x && y) ≡ true → y ≡ true
-pass_second true y h = h
-pass_second false y h = cc
-
-pub pass-working : (t : Command → Bool) (rows : List (Row Command Reply)) (a : Asked Command) → pending_pass t rows ≡ true → working rows ≡ Some a → t a.command ≡ true
-pass-working t [] a h w = cc
-pass-working t (Waiting b ∷ rows) a h w = pass-working t rows a (pass_second (t b.command) (pending_pass t rows) h) w
-pass-working t (InWork b ∷ rows) a h w = ap (λ (x : Asked Command). t x.command) (sym (same_asked b a w)) ∙ pass_first (t b.command) (pending_pass t rows) h
-pass-working t (Gone id s q ∷ rows) a h w = pass-working t rows a h w
-
--- the part buffer
 
 or_second : (a b : Bool) → b ≡ true → (a || b) ≡ true
 or_second true b e = refl

@@ -1,5 +1,6 @@
 pub mod BoolLemmas
 pub mod EndingLemmas
+pub mod EntryCommands
 pub mod EntryLemmas
 pub mod EntryRuns
 pub mod EntryStays

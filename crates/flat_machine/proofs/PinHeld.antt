@@ -1,15 +1,17 @@
 -- When a PIN is held.
+use Rattle.flat_machine.specs.Decisions.{Goes, Stops}
 use Rattle.flat_machine.specs.Entries.{Entry, active_seen, after_other, after_value, digit_in, entered, is_pin, shown_digit, terminator_seen, value_seen}
 use Rattle.flat_machine.specs.EntrySteps.{next_begin, press_in, press_seen}
-use Rattle.flat_machine.specs.FinishSteps.{next_finish}
+use Rattle.flat_machine.specs.FinishSteps.{finish_by, finish_pin, finish_with, next_finish, pin_now}
 use Rattle.flat_machine.specs.Machine.{has_pin, next, next_boot, next_off}
 use Rattle.flat_machine.specs.PinFacts.{EndsPin, PinAfter, PinEntered, PinGoes, PinStays, leaves_pin}
 use Rattle.flat_machine.specs.RequestSteps.{is_canceled, next_ask, next_cancel, next_submit, next_tick, submit_by, submit_refusal}
-use Rattle.flat_machine.specs.Requests.{pending_where}
+use Rattle.flat_machine.specs.Requests.{pending_where, working}
 use Rattle.flat_machine.specs.SessionSteps.{next_close, next_listen, next_lock, next_open, next_unlock}
 use Rattle.flat_machine.specs.Sessions.{holds, is_open}
-use Rattle.flat_machine.specs.State.{Flat, Public, Running, Said, ends, running}
-use Rattle.flat_machine.specs.Works.{Setting}
+use Rattle.flat_machine.specs.State.{Flat, Public, Running, Said, after_said, ends, running}
+use Rattle.flat_machine.specs.Works.{Readied, Setting}
+use Rattle.flat_machine.specs.declared.types.Asked.{Asked}
 use Rattle.flat_machine.specs.declared.types.Seen.{Seen}
 use Rattle.flat_machine.specs.declared.types.Seen.TheVariants.{Ended, Ignored, Took}
 use Rattle.key_source.specs.Keys.{has_key}
@@ -18,13 +20,16 @@ use Rattle.pad_steps.specs.declared.answers.Completion.{Completion}
 use Rattle.pad_steps.specs.declared.answers.Refusal.{Refusal}
 use Rattle.pad_steps.specs.declared.answers.Shown.{Shown}
 use Rattle.pad_steps.specs.declared.commands.Command.{Command}
+use Rattle.pad_steps.specs.declared.commands.PinRequest.{PinRequest}
 use Rattle.pad_steps.specs.declared.steps.DiskWord.{DiskWord}
 use Rattle.pad_steps.specs.declared.steps.Step.{Step}
 use Rattle.pad_words.specs.declared.numbers.Session.{Session}
-use Rattle.std.specs.Prelude.{Bool, IsTrue, List, None, Option, Some, [], cond, false, if◌then◌else◌, length, nat_lt, not, refl, true, ℕ, ◌&&◌, ◌+◌, ◌==◌, ◌∷◌, ◌≡◌}
+use Rattle.std.proofs.Common.{ap, ◌∙◌}
+use Rattle.std.specs.Prelude.{Bool, IsTrue, List, None, Option, Some, [], cond, false, if◌then◌else◌, length, nat_lt, not, refl, true, ℕ, ◌&&◌, ◌+◌, ◌==◌, ◌||◌, ◌∷◌, ◌≡◌}
 use Rattle.key_source.specs.declared.Key.TheVariants as keypad
 use Rattle.pad_steps.specs.declared.answers.Completion.TheVariants as completion
 use Rattle.pad_steps.specs.declared.answers.Shown.TheVariants as shown
+use Rattle.pad_steps.specs.declared.commands.Command.TheVariants as command
 use Rattle.pad_steps.specs.declared.steps.Step.TheVariants as step
 
 after_drop : (b : Bool) (h : Flat) (s : Step) → PinAfter h s (if b then [] else h.held)
@@ -140,3 +145,25 @@ left_held set h (step.Tick n) w is = refl
 left_held set h (step.Ask s q) w is = undropped (next_ask set.cipher h.public (has_pin h.held) s q).drops_pin h.held (stays_if (is_open s h.public.sessions) _ _ refl refl)
 left_held set h step.Off w is = cc
 left_held set h step.Boot w is = cc
+
+-- a Finish of a PIN command
+
+finish_of_pin : (set : Setting) (h : Flat) (a : Asked Command) (r : PinRequest) (w : DiskWord) → working h.public.requests ≡ Some a → a.command ≡ command.Pin r → next_finish set h.public h.held w ≡ finish_pin set h.public h.held a r (pin_now set.works h.public (length h.held) r)
+finish_of_pin set h a r w work is = ap (λ (o : Option (Asked Command)). finish_with set h.public h.held o w) work ∙ ap (λ (c : Command). finish_by set h.public h.held a c w) is
+
+pub refused_pin_stays : (set : Setting) (h : Flat) (a : Asked Command) (r : PinRequest) (why : Refusal) (accused : Option (List ℕ)) (w : DiskWord) → working h.public.requests ≡ Some a → a.command ≡ command.Pin r → pin_now set.works h.public (length h.held) r ≡ Stops why accused → (next set h step.Finish w).state.held ≡ h.held
+refused_pin_stays set h a r why accused w work is stops = ap (λ (s : Said). (after_said h s).state.held) (finish_of_pin set h a r w work is ∙ ap (finish_pin set h.public h.held a r) stops)
+
+maintained : (b : Bool) (held : List ℕ) → b ≡ true → (if not b || false then [] else held) ≡ held
+maintained true held e = refl
+maintained false held e = cc
+
+unmaintained : (b : Bool) (held : List ℕ) → b ≡ false → (if not b || false then [] else held) ≡ []
+unmaintained true held e = cc
+unmaintained false held e = refl
+
+pub used_pin_goes : (set : Setting) (h : Flat) (a : Asked Command) (r : PinRequest) (y : Readied) (w : DiskWord) → working h.public.requests ≡ Some a → a.command ≡ command.Pin r → pin_now set.works h.public (length h.held) r ≡ Goes y → h.public.maintain ≡ false → (next set h step.Finish w).state.held ≡ []
+used_pin_goes set h a r y w work is goes off = ap (λ (s : Said). (after_said h s).state.held) (finish_of_pin set h a r w work is ∙ ap (finish_pin set h.public h.held a r) goes) ∙ unmaintained h.public.maintain h.held off
+
+pub maintained_pin_stays : (set : Setting) (h : Flat) (a : Asked Command) (r : PinRequest) (y : Readied) (w : DiskWord) → working h.public.requests ≡ Some a → a.command ≡ command.Pin r → pin_now set.works h.public (length h.held) r ≡ Goes y → h.public.maintain ≡ true → (next set h step.Finish w).state.held ≡ h.held
+maintained_pin_stays set h a r y w work is goes on = ap (λ (s : Said). (after_said h s).state.held) (finish_of_pin set h a r w work is ∙ ap (finish_pin set h.public h.held a r) goes) ∙ maintained h.public.maintain h.held on

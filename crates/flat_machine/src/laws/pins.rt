@@ -1,6 +1,6 @@
 //! What a PIN entry says, and when a PIN is held.
 
-ghost use Rattle.std.specs.Prelude.{◌≡◌, ◌∷◌, ◌≤◌, [], IsTrue, List, None, Some, false, length, ℕ};
+ghost use Rattle.std.specs.Prelude.{◌≡◌, ◌∷◌, ◌≤◌, [], IsTrue, List, None, Option, Some, false, length, true, ℕ};
 ghost use Rattle.std.specs.List.{list_all};
 ghost use Rattle.key_source.specs.declared.Key.{Key};
 ghost use Rattle.pad_steps.specs.declared.answers.Shown.{Shown};
@@ -11,7 +11,15 @@ ghost use Rattle.pad_steps.specs.declared.steps.DiskWord.{DiskWord};
 ghost use Rattle.pad_steps.specs.declared.steps.DiskWord.TheVariants as words;
 ghost use Rattle.flat_machine.specs.declared.types.Seen.TheVariants.{Ended};
 ghost use Rattle.flat_machine.specs.Entries.{Entry, entered, active_seen, is_pin, is_secret};
-ghost use Rattle.flat_machine.specs.Works.{Setting};
+ghost use Rattle.pad_steps.specs.declared.answers.Refusal.{Refusal};
+ghost use Rattle.pad_steps.specs.declared.commands.Command.{Command};
+ghost use Rattle.pad_steps.specs.declared.commands.Command.TheVariants as commands;
+ghost use Rattle.pad_steps.specs.declared.commands.PinRequest.{PinRequest};
+ghost use Rattle.flat_machine.specs.declared.types.Asked.{Asked};
+ghost use Rattle.flat_machine.specs.Decisions.{Goes, Stops};
+ghost use Rattle.flat_machine.specs.Requests.{working};
+ghost use Rattle.flat_machine.specs.FinishSteps.{pin_now};
+ghost use Rattle.flat_machine.specs.Works.{Readied, Setting};
 ghost use Rattle.flat_machine.specs.State.{Flat, Running, running, is_off};
 ghost use Rattle.flat_machine.specs.Machine.{Act, next, line_of, run_from, fits};
 ghost use Rattle.flat_machine.specs.Facts.{IsStart};
@@ -33,6 +41,13 @@ pub fn pin_is_held()
 /// Steps of sessions, Submit, Cancel, Tick and Ask leave the held PIN as it is.
 pub fn pin_is_left()
     ensures { (set : Setting) (state : Flat) (step : Step) (word : DiskWord) → IsTrue (leaves_pin step) → (next set state step word).state.held ≡ state.held }
+{}
+
+/// A PIN command that is refused leaves the held PIN; one that is answered uses it up, unless it is maintained.
+pub fn used_pin()
+    ensures refused { (set : Setting) (state : Flat) (request : Asked Command) (wanted : PinRequest) (refusal : Refusal) (accused : Option (List ℕ)) (word : DiskWord) → working state.public.requests ≡ Some request → request.command ≡ commands.Pin wanted → pin_now set.works state.public (length state.held) wanted ≡ Stops refusal accused → (next set state steps.Finish word).state.held ≡ state.held }
+    ensures used { (set : Setting) (state : Flat) (request : Asked Command) (wanted : PinRequest) (ready : Readied) (word : DiskWord) → working state.public.requests ≡ Some request → request.command ≡ commands.Pin wanted → pin_now set.works state.public (length state.held) wanted ≡ Goes ready → state.public.maintain ≡ false → (next set state steps.Finish word).state.held ≡ [] }
+    ensures maintained { (set : Setting) (state : Flat) (request : Asked Command) (wanted : PinRequest) (ready : Readied) (word : DiskWord) → working state.public.requests ≡ Some request → request.command ≡ commands.Pin wanted → pin_now set.works state.public (length state.held) wanted ≡ Goes ready → state.public.maintain ≡ true → (next set state steps.Finish word).state.held ≡ state.held }
 {}
 
 /// A held PIN has at most 16 digits, each a decimal digit.
