@@ -5,6 +5,7 @@ pub mod EntryLemmas
 pub mod EntryRuns
 pub mod EntryStays
 pub mod ExampleTwins
+pub mod FloorLemmas
 pub mod HeldRuns
 pub mod HistoryLemmas
 pub mod KeptLemmas
