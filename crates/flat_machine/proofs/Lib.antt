@@ -1,4 +1,5 @@
 pub mod BoolLemmas
+pub mod CryptRuns
 pub mod EndingLemmas
 pub mod EntryCommands
 pub mod EntryLemmas
