@@ -11,6 +11,8 @@ pub mod HeldRuns
 pub mod HistoryLemmas
 pub mod KeptLemmas
 pub mod KeyRuns
+pub mod KeyTableRuns
+pub mod KeyTables
 pub mod LengthLemmas
 pub mod LengthRuns
 pub mod LineLemmas
@@ -35,6 +37,7 @@ pub mod SessionRuns
 pub mod SoundLemmas
 pub mod StepWalk
 pub mod SubmitLemmas
+pub mod TableLemmas
 pub mod TwinLemmas
 pub mod TwinRuns
 pub mod Unwinding

@@ -1,6 +1,7 @@
 //! Laws of the definitions, by theme. Each law is a function with an empty body, called for its clauses.
 
 pub mod kept;
+pub mod keys;
 pub mod pins;
 pub mod requests;
 pub mod runs;
