@@ -33,7 +33,9 @@ module _ (set : Setting) where
   -- from this state every word fits, and each outcome is the machine's after the entries before it
   abbrev pub LegalFrom : Flat → List HistoryEntry → Type 0
   LegalFrom state [] = Unit {0}
-  LegalFrom state (entry ∷ rest) = IsTrue (fits set state.public entry.op entry.outcome.word) × (entry.outcome ≡ outcome_of state (act_of entry)) × LegalFrom (next set state entry.op entry.outcome.word).state rest
+  LegalFrom state (entry ∷ rest) = IsTrue (fits set state.public entry.op entry.outcome.word)
+      × (entry.outcome ≡ outcome_of state (act_of entry))
+      × LegalFrom (next set state entry.op entry.outcome.word).state rest
 
   -- legal from the opening
   abbrev pub Legal : List HistoryEntry → Type 0

@@ -86,7 +86,8 @@ pub record EndsPin (state : Flat) (key : Key) (current : Running) (completion : 
 pub data PinAfter (state : Flat) (step : Step) (held : List ℕ) : Type 0 where
   PinStays : held ≡ state.held → PinAfter state step held
   PinGoes : held ≡ [] → PinAfter state step held
-  PinEntered : (key : Key) (current : Running) (completion : Completion) → step ≡ steps.Press key → EndsPin state key current completion → held ≡ entered current.entry (key ∷ state.presses) → PinAfter state step held
+  PinEntered : (key : Key) (current : Running) (completion : Completion) → step ≡ steps.Press key → EndsPin state key current completion
+      → held ≡ entered current.entry (key ∷ state.presses) → PinAfter state step held
 
 -- these kinds of step leave the held PIN as it is
 abbrev pub leaves_pin : Step → Bool

@@ -95,7 +95,14 @@ pub record After : Type 0 where
 
 -- an effect on a state: what is dropped becomes empty
 abbrev pub after_said : Flat → Said → After
-after_said state effect = record { state = record { public = effect.public; presses = if effect.drops_presses then [] else state.presses; held = if effect.drops_pin then [] else state.held }; outs = effect.outs }
+after_said state effect = record {
+  state = record {
+    public = effect.public;
+    presses = if effect.drops_presses then [] else state.presses;
+    held = if effect.drops_pin then [] else state.held;
+  };
+  outs = effect.outs;
+}
 
 -- the entry that runs: the id and the session of its request, and its rules
 pub record Running : Type 0 where
@@ -157,7 +164,9 @@ work_ends test (Some request) = test request
 
 -- the pending requests that pass the test end with this refusal, in order of their ids; the presses are dropped where the request in work is one of them
 abbrev pub ends : (Asked Command → Bool) → Refusal → Public → Said
-ends test refusal public = dropping_presses (work_ends test (working public.requests)) (said (record public { requests = ended_where test (replied.No refusal) public.requests }) (map (λ request. out.Ended request.session request.id (replied.No refusal)) (pending_where test public.requests)))
+ends test refusal public = dropping_presses (work_ends test (working public.requests)) (said
+    (record public { requests = ended_where test (replied.No refusal) public.requests })
+    (map (λ request. out.Ended request.session request.id (replied.No refusal)) (pending_where test public.requests)))
 
 -- the request in work ends with this reply
 abbrev pub replies : Public → Asked Command → Reply → Said
