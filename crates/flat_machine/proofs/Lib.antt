@@ -26,6 +26,7 @@ pub mod PressLemmas
 pub mod PressWalk
 pub mod QueueLemmas
 pub mod QueueRuns
+pub mod RefusalLemmas
 pub mod ReplyLemmas
 pub mod RequestLemmas
 pub mod RequestMoves

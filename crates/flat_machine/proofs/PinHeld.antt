@@ -126,7 +126,7 @@ stays_submit : (o : Option Refusal) (p : Public) (s : Session) (limit : ℕ) (c 
 stays_submit (Some r) p s limit c = refl
 stays_submit None p s limit c = refl
 
-undropped : (b : Bool) (held : List ℕ) → b ≡ false → (if b then [] else held) ≡ held
+pub undropped : (b : Bool) (held : List ℕ) → b ≡ false → (if b then [] else held) ≡ held
 undropped true held e = cc
 undropped false held e = refl
 

@@ -3,6 +3,7 @@
 pub mod kept;
 pub mod keys;
 pub mod pins;
+pub mod refusals;
 pub mod requests;
 pub mod runs;
 pub mod sessions;
