@@ -74,19 +74,19 @@ unchanged public = said public []
 
 -- the effect with these outs before its own
 abbrev pub with_outs_before : List Out → Said → Said
-with_outs_before outs effect = record { public = effect.public; outs = outs ++ effect.outs; drops_pin = effect.drops_pin; drops_presses = effect.drops_presses }
+with_outs_before outs effect = record effect { outs = outs ++ effect.outs }
 
 -- the effect, and the presses are dropped where the test holds
 abbrev pub dropping_presses : Bool → Said → Said
-dropping_presses test effect = record { public = effect.public; outs = effect.outs; drops_pin = effect.drops_pin; drops_presses = test || effect.drops_presses }
+dropping_presses test effect = record effect { drops_presses = test || effect.drops_presses }
 
 -- the effect, and the held PIN is dropped where the test holds
 abbrev pub dropping_pin : Bool → Said → Said
-dropping_pin test effect = record { public = effect.public; outs = effect.outs; drops_pin = test || effect.drops_pin; drops_presses = effect.drops_presses }
+dropping_pin test effect = record effect { drops_pin = test || effect.drops_pin }
 
 -- the effect with these outs after its own
 abbrev pub with_outs_after : List Out → Said → Said
-with_outs_after outs effect = record { public = effect.public; outs = effect.outs ++ outs; drops_pin = effect.drops_pin; drops_presses = effect.drops_presses }
+with_outs_after outs effect = record effect { outs = effect.outs ++ outs }
 
 -- the state after a step, and what the step said
 pub record After : Type 0 where
