@@ -13,6 +13,7 @@ pub mod KeptLemmas
 pub mod KeyRuns
 pub mod KeyTableRuns
 pub mod KeyTables
+pub mod LegalLemmas
 pub mod LengthLemmas
 pub mod LengthRuns
 pub mod LineLemmas
