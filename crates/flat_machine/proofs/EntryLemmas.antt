@@ -1,16 +1,15 @@
 -- What a digit of a PIN does not change.
 use Rattle.flat_machine.specs.Entries.{Entry, active_seen, after_digit, after_other, after_value, digit_in, digit_seen, entered, is_pin, is_secret, shown_digit, value_seen}
-use Rattle.flat_machine.specs.Requests.{same_session}
 use Rattle.flat_machine.specs.Twins.{AlikeKeys, AlikePresses}
 use Rattle.key_source.specs.Keys.{has_key}
 use Rattle.key_source.specs.declared.Key.{Key}
-use Rattle.pad_steps.specs.declared.commands.EntryKind.{EntryKind}
 use Rattle.pad_steps.specs.declared.answers.Shown.{Shown}
+use Rattle.pad_steps.specs.declared.commands.EntryKind.{EntryKind}
 use Rattle.std.proofs.Common.{ap, arith, inl, inr, length-append, length-take, subst, sym, ◌∙◌}
 use Rattle.std.specs.Prelude.{Bool, List, None, Option, Some, [], cond, false, is_some, length, nat_lt, refl, true, ℕ, ◌&&◌, ◌++◌, ◌-◌, ◌∷◌, ◌≡◌}
 use Rattle.key_source.specs.declared.Key.TheVariants as keypad
-use Rattle.pad_steps.specs.declared.commands.EntryKind.TheVariants as entry_kind
 use Rattle.pad_steps.specs.declared.answers.Shown.TheVariants as shown
+use Rattle.pad_steps.specs.declared.commands.EntryKind.TheVariants as entry_kind
 
 and_parts : (x y z : Bool) → (x && y && z) ≡ true → (x ≡ true) × (y ≡ true) × (z ≡ true)
 and_parts true true true h = (refl, refl, refl)
@@ -48,7 +47,7 @@ pub record ActsAlike (e : Entry) (a b : Key) : Type 0 where
 acts_same : (e : Entry) (a : Key) → ActsAlike e a a
 acts_same e a = record { active = refl; seen = λ n. refl; count = λ xs ys same. length-after_value e (digit_in e.kind a) a xs ys same }
 
-shown_pin : (s : EntryKind) (k : Key) → is_pin s ≡ true → shown_digit s k ≡ shown.Masked
+pub shown_pin : (s : EntryKind) (k : Key) → is_pin s ≡ true → shown_digit s k ≡ shown.Masked
 shown_pin entry_kind.Pin k is = refl
 shown_pin entry_kind.Figures k is = cc
 shown_pin entry_kind.Part k is = cc

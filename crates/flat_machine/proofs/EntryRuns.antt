@@ -1,5 +1,6 @@
 -- Entries, computed by the definitions alone.
-use Rattle.flat_machine.proofs.RunWords.{all_fit, beginning, begun_entry, block_of, checked, digit, digit_key, done_on_disk, done_quietly, ending_keys, entry_keys, four_entered, get_pin, import_clear, iso0_block, listening_to, masked_keys, pin_key, plain_key, press_cancel, press_enter, quiet, refused, replies_by, said_after, said_by, session_1, with_pin_key, zero_check}
+use Rattle.flat_machine.proofs.RunCommands.{begun_entry, block_of, checked, digit, digit_key, ending_keys, entry_keys, four_entered, get_pin, import_clear, iso0_block, masked_keys, pin_key, plain_key, press_cancel, press_enter, refused, with_pin_key, zero_check}
+use Rattle.flat_machine.proofs.RunWords.{all_fit, beginning, done_on_disk, done_quietly, listening_to, quiet, replies_by, said_after, said_by, session_1}
 use Rattle.flat_machine.specs.Ciphers.{zero_block}
 use Rattle.flat_machine.specs.Machine.{Act}
 use Rattle.flat_machine.specs.State.{opening}

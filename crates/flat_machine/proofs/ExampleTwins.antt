@@ -1,5 +1,6 @@
 -- Two runs that are twins, and two that are none.
-use Rattle.flat_machine.proofs.RunWords.{begun_entry, digit, done_quietly, entered_0000, entered_1234, get_pin, iso0_block, local_check, press_enter, setting, with_pin_key}
+use Rattle.flat_machine.proofs.RunCommands.{begun_entry, digit, entered_0000, entered_1234, get_pin, iso0_block, local_check, press_enter, with_pin_key}
+use Rattle.flat_machine.proofs.RunWords.{done_quietly, setting}
 use Rattle.flat_machine.proofs.TwinRuns.{twins_print_alike}
 use Rattle.flat_machine.specs.Machine.{Act, lines_from, releases_from}
 use Rattle.flat_machine.specs.State.{opening}

@@ -1,5 +1,5 @@
 -- Each step of what is kept is the step of the state.
-use Rattle.flat_machine.proofs.TwinLemmas.{Drops, Keeps, KeepsEntry, keeps_begin, keeps_cancel, keeps_close, keeps_finish, keeps_if, keeps_loads, keeps_of_open, keeps_open, keeps_power, keeps_submit, keeps_tick, keeps_unlock}
+use Rattle.flat_machine.proofs.EntryStays.{Drops, Keeps, KeepsEntry, keeps_begin, keeps_cancel, keeps_close, keeps_finish, keeps_if, keeps_if_open, keeps_loads, keeps_open, keeps_power, keeps_submit, keeps_tick, keeps_unlock}
 use Rattle.flat_machine.specs.Entries.{active_seen, after_value, digit_in, entered}
 use Rattle.flat_machine.specs.EntrySteps.{after_entry, press_in, press_seen}
 use Rattle.flat_machine.specs.Kept.{KeptAfter, digits_of, kept_next, kept_of, kept_press_in, kept_said, kept_seen}
@@ -61,16 +61,16 @@ press_kept set h (Some w) key is =
 pub next_kept : (set : Setting) (h : Flat) (s : Step) (w : DiskWord) → kept_after (next set h s w) ≡ kept_next set (kept_of h) s w
 next_kept set h (step.Open s) w = said_kept h _ (keeps_open h.public s)
 next_kept set h (step.Close s) w = said_kept h _ (keeps_close h.public s)
-next_kept set h (step.Listen s c) w = said_kept h _ (keeps_of_open h.public s _ (Keeps refl))
-next_kept set h (step.Lock s) w = said_kept h _ (keeps_of_open h.public s _ (Keeps refl))
+next_kept set h (step.Listen s c) w = said_kept h _ (keeps_if_open h.public s _ (Keeps refl))
+next_kept set h (step.Lock s) w = said_kept h _ (keeps_if_open h.public s _ (Keeps refl))
 next_kept set h (step.Unlock s) w = said_kept h _ (keeps_unlock h.public s)
 next_kept set h (step.Submit s limit c) w = said_kept h _ (keeps_submit h.public s limit c (submit_refusal set.works h.public s c))
-next_kept set h (step.Cancel s id) w = said_kept h _ (keeps_of_open h.public s _ (keeps_cancel h.public s id (pending_where (is_canceled h.public s id) h.public.requests)))
+next_kept set h (step.Cancel s id) w = said_kept h _ (keeps_if_open h.public s _ (keeps_cancel h.public s id (pending_where (is_canceled h.public s id) h.public.requests)))
 next_kept set h step.Begin w = said_kept h _ (keeps_begin h.public)
 next_kept set h step.Finish w = said_kept h _ (keeps_finish set h.public h.held (working h.public.requests) w)
 next_kept set h (step.Press key) w = press_kept set h (running h.public) key refl
 next_kept set h (step.Tick n) w = said_kept h _ (keeps_tick h.public n)
-next_kept set h (step.Ask s q) w = said_kept h _ (keeps_of_open h.public s _ (Keeps refl))
+next_kept set h (step.Ask s q) w = said_kept h _ (keeps_if_open h.public s _ (Keeps refl))
 next_kept set h step.Off w = said_kept h _ (keeps_if h.public (is_off h.public.device) _ _ (Keeps refl) (keeps_power h.public h.public refl))
 next_kept set h step.Boot w = said_kept h _ (keeps_if h.public (is_off h.public.device) _ _ (keeps_loads h.public w) (Keeps refl))
 

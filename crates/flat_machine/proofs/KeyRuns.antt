@@ -1,10 +1,11 @@
 -- Keys, computed by the definitions alone.
-use Rattle.flat_machine.proofs.RunWords.{beginning, begun_entry, checked, counting_check, counting_key, digit, done, done_on_disk, done_quietly, import_clear, listening_to, mac_under, pin_key, quiet, refused, replies_by, said_after, session_1, unchecked, zero_check, zero_encrypted}
+use Rattle.flat_machine.proofs.RunCommands.{begun_entry, checked, counting_check, digit, done, import_clear, mac_under, pin_block, pin_key, refused, unchecked, zero_check}
+use Rattle.flat_machine.proofs.RunWords.{beginning, counting_key, done_on_disk, done_quietly, listening_to, quiet, replies_by, said_after, session_1, zero_encrypted}
 use Rattle.flat_machine.specs.Ciphers.{zero_block}
 use Rattle.flat_machine.specs.Machine.{Act}
 use Rattle.pad_steps.specs.declared.commands.Command.{Command}
 use Rattle.pad_steps.specs.declared.commands.Verify.{Verify}
-use Rattle.std.specs.Prelude.{List, Some, [], codes, false, refl, replicate, suc, true, zero, ℕ, ◌++◌, ◌∷◌, ◌≡◌}
+use Rattle.std.specs.Prelude.{List, None, Some, [], codes, false, refl, replicate, suc, true, zero, ℕ, ◌++◌, ◌∷◌, ◌≡◌}
 use Rattle.key_source.specs.declared.Key.TheVariants as keypad
 use Rattle.pad_steps.specs.declared.answers.Answer.TheVariants as answer
 use Rattle.pad_steps.specs.declared.answers.Completion.TheVariants as completion
@@ -14,6 +15,7 @@ use Rattle.pad_steps.specs.declared.answers.Refusal.TheVariants as refusal
 use Rattle.pad_steps.specs.declared.answers.Reply.TheVariants as reply
 use Rattle.pad_steps.specs.declared.answers.Told.TheVariants as told
 use Rattle.pad_steps.specs.declared.commands.Command.TheVariants as command
+use Rattle.pad_steps.specs.declared.commands.Form.TheVariants as form
 use Rattle.pad_steps.specs.declared.commands.ImportSource.TheVariants as origin
 use Rattle.pad_steps.specs.declared.commands.Verify.TheVariants as verify
 use Rattle.pad_steps.specs.declared.steps.DiskWord.TheVariants as word
@@ -86,3 +88,12 @@ initialization = refl
 failed_initialization : said_after (listening_to true false ++ done_on_disk (import_clear pin_key zero_block 2 verify.Zero) word.Done) (done_on_disk command.Init (word.Failed 0))
     ≡ out.Request session_1 2 ∷ out.Ended session_1 2 (refused refusal.HardwareError) ∷ []
 failed_initialization = refl
+
+-- a deletion of an absent key accuses no key
+deletion_of_an_absent_key : said_after (listening_to true false) (done_quietly (command.DeleteKey (codes "GONE"))) ≡ out.Request session_1 1 ∷ out.Ended session_1 1 (refused refusal.KeyNotFound) ∷ []
+deletion_of_an_absent_key = refl
+
+-- the second key of a PIN block is asked for the same use as the first, before it is asked whether a PIN is held
+second_key_without_its_use : said_after (listening_to true false ++ done_on_disk (import_clear pin_key zero_block 2 verify.Zero) word.Done ++ done_on_disk (import_clear (codes "B") counting_key 4 verify.Nothing) word.Done) (done_quietly (pin_block form.Ibm3624 pin_key (Some (codes "B")) None [] 0))
+    ≡ out.Request session_1 3 ∷ out.Ended session_1 3 (refused refusal.UseViolation) ∷ out.Event session_1 (event.IllegalKeyAccess (codes "B") refusal.UseViolation) ∷ []
+second_key_without_its_use = refl

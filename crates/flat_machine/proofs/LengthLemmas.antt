@@ -1,5 +1,5 @@
 -- How many digits an entry has, and has when it ends.
-use Rattle.flat_machine.specs.Entries.{Entry, active_seen, after_other, after_value, digit_in, terminator_seen, entered, shown_digit, value_seen}
+use Rattle.flat_machine.specs.Entries.{Entry, active_seen, after_other, after_value, digit_in, entered, shown_digit, terminator_seen, value_seen}
 use Rattle.flat_machine.specs.declared.types.Seen.TheVariants.{Ended, Ignored, Took}
 use Rattle.key_source.specs.Keys.{has_key}
 use Rattle.key_source.specs.declared.Key.{Key}
@@ -8,8 +8,8 @@ use Rattle.pad_steps.specs.declared.answers.Shown.{Shown}
 use Rattle.std.proofs.Common.{arith, inl, inr, length-append, length-take}
 use Rattle.std.proofs.lemmas.Bool.{eqb-true, ltb-false, ltb-true}
 use Rattle.std.specs.Prelude.{Bool, List, None, Option, Some, [], cond, false, if◌then◌else◌, length, nat_lt, refl, true, ℕ, ◌&&◌, ◌++◌, ◌+◌, ◌-◌, ◌==◌, ◌∷◌, ◌≡◌, ◌≤◌, ◌⊎◌}
-use Rattle.pad_steps.specs.declared.answers.Completion.TheVariants as completion
 use Rattle.key_source.specs.declared.Key.TheVariants as keypad
+use Rattle.pad_steps.specs.declared.answers.Completion.TheVariants as completion
 use Rattle.pad_steps.specs.declared.answers.Shown.TheVariants as shown
 
 le_if_push : (b : Bool) (ds : List ℕ) (v g : ℕ) → nat_lt (length ds) g ≡ b → length ds ≤ g → length (cond b (ds ++ v ∷ []) ds) ≤ g

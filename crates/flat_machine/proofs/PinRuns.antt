@@ -1,5 +1,6 @@
 -- PIN blocks and checks, and how long a PIN is held, computed by the definitions alone.
-use Rattle.flat_machine.proofs.RunWords.{begun_entry, block_of, checked, digit, done, done_quietly, ending_keys, entered_0000, entered_1234, entry_keys, four_entered, get_pin, iso0_block, local_check, pin_block, pin_key, press_cancel, press_enter, quiet, refused, replies_by, said_after, session_1, with_pin_key, yes, zero_check, zero_encrypted}
+use Rattle.flat_machine.proofs.RunCommands.{begun_entry, block_of, checked, digit, done, ending_keys, entered_0000, entered_1234, entry_keys, four_entered, get_pin, iso0_block, local_check, pin_block, pin_key, press_cancel, press_enter, refused, with_pin_key, yes, zero_check}
+use Rattle.flat_machine.proofs.RunWords.{done_quietly, quiet, replies_by, said_after, session_1, zero_encrypted}
 use Rattle.flat_machine.specs.Machine.{Act}
 use Rattle.std.specs.Prelude.{List, None, Some, [], false, refl, replicate, true, ◌++◌, ◌∷◌, ◌≡◌}
 use Rattle.pad_steps.specs.declared.answers.Answer.TheVariants as answer

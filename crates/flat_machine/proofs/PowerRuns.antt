@@ -1,5 +1,6 @@
 -- Power, cuts and faults, computed by the definitions alone.
-use Rattle.flat_machine.proofs.RunWords.{all_fit, beginning, begun_entry, block_of, checked, counting_key, done, done_on_disk, done_quietly, entered_0000, fates_by, four_entered, import_clear, pin_block, pin_key, quiet, refused, replies_by, said_after, said_by, session_1, setting, unchecked, with_pin_key, with_word, zero_check, zero_encrypted}
+use Rattle.flat_machine.proofs.RunCommands.{begun_entry, block_of, checked, done, entered_0000, four_entered, import_clear, pin_block, pin_key, refused, unchecked, with_pin_key, zero_check}
+use Rattle.flat_machine.proofs.RunWords.{all_fit, beginning, counting_key, done_on_disk, done_quietly, fates_by, quiet, replies_by, said_after, said_by, session_1, setting, with_word, zero_encrypted}
 use Rattle.flat_machine.specs.Arms.{Cuts, Due}
 use Rattle.flat_machine.specs.Ciphers.{zero_block}
 use Rattle.flat_machine.specs.Machine.{Act, plan, run}
@@ -69,6 +70,10 @@ fault_stops_the_device = refl
 doubt_stays_until_loaded : fates_by (beginning ++ done_on_disk import_pin_key (word.Failed 0) ++ done_on_disk command.Reset (word.Failed 0) ++ quiet step.Off ∷ with_word step.Boot (word.Cut 0) ∷ with_word step.Boot (word.Loaded ((0, row_of_pin_key) ∷ [])) ∷ []) ≡ fates.First ∷ fates.New ∷ []
 doubt_stays_until_loaded = refl
 
+-- and through a loading that found a bad slot
+doubt_stays_through_a_bad_loading : fates_by (beginning ++ done_on_disk import_pin_key (word.Failed 0) ++ done_on_disk command.Reset (word.Bad 3) ++ done_on_disk command.Reset (word.Loaded ((0, row_of_pin_key) ∷ []))) ≡ fates.First ∷ fates.New ∷ []
+doubt_stays_through_a_bad_loading = refl
+
 -- INITIALIZATION that failed after one slot: the first row is gone, the second in doubt
 init_failed_after_one_slot : fates_by (beginning ++ done_on_disk import_pin_key word.Done ++ done_on_disk (import_clear (codes "B") counting_key 4 verify.Nothing) word.Done ++ done_on_disk command.Init (word.Failed 1) ++ done_on_disk command.Reset (word.Loaded [])) ≡ fates.First ∷ fates.New ∷ []
 init_failed_after_one_slot = refl
@@ -85,7 +90,13 @@ off_clears_pin_and_maintain : replies_by (with_pin_key ++ done_quietly (command.
     ≡ checked zero_check ∷ done ∷ four_entered ∷ refused refusal.NoPin ∷ four_entered ∷ block_of zero_encrypted ∷ refused refusal.NoPin ∷ []
 off_clears_pin_and_maintain = refl
 
--- RESET clears the PIN whatever its word, and INITIALIZATION keeps maintain
+-- RESET clears PIN and maintain, also where its loading failed
+reset_clears_pin_and_maintain : replies_by (with_pin_key ++ done_quietly (command.MaintainPin true) ++ entered_0000 ++ done_on_disk command.Reset (word.Failed 0) ++ done_on_disk command.Reset (word.Loaded ((0, row_of_pin_key) ∷ []))
+    ++ done_quietly (pin_block form.Ibm3624 pin_key None None [] 0) ++ entered_0000 ++ done_quietly (pin_block form.Ibm3624 pin_key None None [] 0) ++ done_quietly (pin_block form.Ibm3624 pin_key None None [] 0))
+    ≡ checked zero_check ∷ done ∷ four_entered ∷ refused refusal.HardwareError ∷ done ∷ refused refusal.NoPin ∷ four_entered ∷ block_of zero_encrypted ∷ refused refusal.NoPin ∷ []
+reset_clears_pin_and_maintain = refl
+
+-- INITIALIZATION clears the PIN and keeps maintain
 init_keeps_maintain : replies_by (beginning ++ done_quietly (command.MaintainPin true) ++ entered_0000 ++ done_quietly command.Init ++ done_on_disk import_pin_key word.Done ++ done_quietly (pin_block form.Ibm3624 pin_key None None [] 0)
     ++ entered_0000 ++ done_quietly (pin_block form.Ibm3624 pin_key None None [] 0) ++ done_quietly (pin_block form.Ibm3624 pin_key None None [] 0))
     ≡ done ∷ four_entered ∷ done ∷ unchecked ∷ refused refusal.NoPin ∷ four_entered ∷ block_of zero_encrypted ∷ block_of zero_encrypted ∷ []

@@ -1,6 +1,8 @@
 -- What a press does to the requests, the sessions and the line, and what each step does to the requests of a run.
+use Rattle.flat_machine.proofs.EndingLemmas.{endings-append, endings-ended, endings-execute_event, endings-grants, endings-grants_after}
 use Rattle.flat_machine.proofs.RequestMoves.{EndedWhere, Finished, Moves, Rows, Unmoved, ending_of}
-use Rattle.flat_machine.proofs.StepWalk.{endings-append, endings-ended, endings-execute_event, endings-grants, endings-grants_after, walk_begin, walk_cancel, walk_finish, walk_if, walk_if_open, walk_loads, walk_nothing, walk_power, walk_submit, walk_tick}
+use Rattle.flat_machine.proofs.StepWalk.{walk_begin, walk_cancel, walk_finish, walk_if, walk_if_open, walk_loads, walk_nothing, walk_power, walk_submit, walk_tick}
+use Rattle.flat_machine.proofs.SubmitLemmas.{submit_room}
 use Rattle.flat_machine.specs.Entries.{Entry, active_seen, entered, entry_of}
 use Rattle.flat_machine.specs.EntrySteps.{next_press, press_in, press_seen}
 use Rattle.flat_machine.specs.Machine.{next}
@@ -125,7 +127,7 @@ moves_next set h (step.Close s) w = moves_close h.public s
 moves_next set h (step.Listen s c) w = moves_if_open h.public s _ (Unmoved refl refl)
 moves_next set h (step.Lock s) w = moves_if_open h.public s _ (Unmoved refl refl)
 moves_next set h (step.Unlock s) w = moves_unlock h.public s
-moves_next set h (step.Submit s limit c) w = (walk_submit h.public (submit_refusal set.works h.public s c) s limit c).moves
+moves_next set h (step.Submit s limit c) w = (walk_submit h.public (submit_refusal set.works h.public s c) s limit c (submit_room set.works h.public s c)).moves
 moves_next set h (step.Cancel s id) w = (walk_if_open h.public s _ (walk_cancel h.public s id (pending_where (is_canceled h.public s id) h.public.requests))).moves
 moves_next set h step.Begin w = (walk_begin h.public).moves
 moves_next set h step.Finish w = (walk_finish set h.public h.held (working h.public.requests) w refl).moves

@@ -1,5 +1,6 @@
 -- Sessions, the lock, the queue and time, computed by the definitions alone.
-use Rattle.flat_machine.proofs.RunWords.{beginning, begun_entry, digit, done, done_quietly, get_pin, pin_block, pin_key, press_cancel, quiet, refused, said_after, session_1, session_2, setting, with_pin_key}
+use Rattle.flat_machine.proofs.RunCommands.{begun_entry, digit, done, get_pin, pin_block, pin_key, press_cancel, refused, with_pin_key}
+use Rattle.flat_machine.proofs.RunWords.{beginning, done_quietly, quiet, said_after, session_1, session_2, setting}
 use Rattle.flat_machine.specs.Machine.{Act, next_work, run, status}
 use Rattle.pad_steps.specs.declared.answers.Out.{Out}
 use Rattle.std.specs.Prelude.{List, None, Some, [], false, refl, suc, true, zero, ℕ, ◌++◌, ◌+◌, ◌∷◌, ◌≡◌}
@@ -67,7 +68,11 @@ abbrev timeouts_from : ℕ → ℕ → List Out
 timeouts_from id zero = []
 timeouts_from id (suc count) = out.Ended session_1 id (refused refusal.Timeout) ∷ timeouts_from (id + 1) count
 
--- a seventeenth is refused; a limit of three ticks ends them at the third tick and not before
+-- a limit of three ticks ends nothing at the second tick
+no_timeout_before_the_limit : said_after sixteen_requests (quiet (step.Tick 2) ∷ []) ≡ []
+no_timeout_before_the_limit = refl
+
+-- a seventeenth is refused; the limit ends all at the third tick
 queue_and_time : said_after sixteen_requests (quiet (step.Submit session_1 3 command.Reset) ∷ quiet (step.Tick 2) ∷ quiet (step.Tick 1) ∷ quiet (step.Ask session_1 (question.Reply 4)) ∷ quiet (step.Ask session_1 (question.Reply 17)) ∷ [])
     ≡ out.Refused session_1 (refusal.QueueFull 16) ∷ timeouts_from 1 16 ++ out.Told session_1 (told.Reply 4 (refused refusal.Timeout)) ∷ out.Told session_1 (told.No refusal.InvalidReqId) ∷ []
 queue_and_time = refl

@@ -57,7 +57,7 @@ gone-push (row ∷ rows) a (suc place) id s q h = gone-push rows a place id s q 
 
 pub moves_gone : (rows after : Rows) (outs : List Out) → Moves rows after outs → StaysGone rows after
 moves_gone rows after outs (Unmoved e t) place id s q h = rw e h
-moves_gone rows after outs (Drawn a i e t) place id s q h = rw e (gone-push rows a place id s q h)
+moves_gone rows after outs (Drawn a i room e t) place id s q h = rw e (gone-push rows a place id s q h)
 moves_gone rows after outs (EndedWhere test r e t) place id s q h = rw e (gone-ended_where test r rows place id s q h)
 moves_gone rows after outs (Begun holder w e t) place id s q h = rw e (gone-begun_as _ holder rows place id s q h)
 moves_gone rows after outs (RefusedAtBegin holder r a w l e t) place id s q h = rw e (gone-begun_as _ holder rows place id s q h)
@@ -185,7 +185,7 @@ kept-push (Gone i s q ∷ rows) a = ap (λ (xs : List Ending). record { id = i; 
 -- what a step leaves of an id's ends is what was there and what it told
 pub moves_endings : (id : ℕ) (rows after : Rows) (outs : List Out) → Moves rows after outs → NumberedFrom 1 rows → of_id id (kept_endings after) ≡ of_id id (kept_endings rows) ++ of_id id (endings outs)
 moves_endings id rows after outs (Unmoved e t) h = rw (e, t) (adds-none id (kept_endings rows))
-moves_endings id rows after outs (Drawn a i e t) h = rw (e, t, kept-push rows a) (adds-none id (kept_endings rows))
+moves_endings id rows after outs (Drawn a i room e t) h = rw (e, t, kept-push rows a) (adds-none id (kept_endings rows))
 moves_endings id rows after outs (EndedWhere test r e t) h = rw (e, t) (kept-ended_where id 1 test r rows h)
 moves_endings id rows after outs (Begun holder w e t) h = rw (e, t, kept-begun holder rows) (adds-none id (kept_endings rows))
 moves_endings id rows after outs (RefusedAtBegin holder r a w l e t) h = rw (e, t) (kept-refused_at_begin id 1 r holder a rows h l)

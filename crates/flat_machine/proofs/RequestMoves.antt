@@ -1,6 +1,6 @@
 -- The six things that a step does to the requests, and what each leaves.
 use Rattle.flat_machine.specs.RequestFacts.{Ending, endings, in_work, row_id}
-use Rattle.flat_machine.specs.Requests.{begun, begun_as, eligible, ended_where, finished, may_begin, refused_at_begin, working}
+use Rattle.flat_machine.specs.Requests.{begun, begun_as, eligible, ended_where, finished, may_begin, pending_count, refused_at_begin, working}
 use Rattle.flat_machine.specs.declared.types.Asked.{Asked}
 use Rattle.flat_machine.specs.declared.types.Row.{Row}
 use Rattle.flat_machine.specs.declared.types.Row.TheVariants.{Gone, InWork, Waiting}
@@ -10,7 +10,7 @@ use Rattle.pad_steps.specs.declared.commands.Command.{Command}
 use Rattle.pad_words.specs.declared.numbers.Session.{Session}
 use Rattle.std.proofs.Common.{ap, arith, ◌∙◌}
 use Rattle.std.specs.List.{range_with_len}
-use Rattle.std.specs.Prelude.{Bool, List, None, Option, Some, [], false, if◌then◌else◌, length, map, refl, true, ℕ, ◌++◌, ◌+◌, ◌∷◌, ◌≡◌, ◌≤◌}
+use Rattle.std.specs.Prelude.{Bool, List, None, Option, Some, [], false, if◌then◌else◌, length, map, nat_le, refl, true, ℕ, ◌++◌, ◌+◌, ◌∷◌, ◌≡◌, ◌≤◌}
 
 abbrev pub Rows : Type 0
 Rows = List (Row Command Reply)
@@ -29,7 +29,7 @@ endings_where test r (Gone id s q ∷ rows) = endings_where test r rows
 -- what a step does to the requests, and which ends it tells of
 pub data Moves (rows after : List (Row Command Reply)) (outs : List Out) : Type 0 where
   Unmoved : after ≡ rows → endings outs ≡ [] → Moves rows after outs
-  Drawn : (a : Asked Command) → a.id ≡ length rows + 1 → after ≡ rows ++ Waiting a ∷ [] → endings outs ≡ [] → Moves rows after outs
+  Drawn : (a : Asked Command) → a.id ≡ length rows + 1 → nat_le 16 (pending_count a.session rows) ≡ false → after ≡ rows ++ Waiting a ∷ [] → endings outs ≡ [] → Moves rows after outs
   EndedWhere : (test : Asked Command → Bool) (r : Reply) → after ≡ ended_where test r rows → endings outs ≡ endings_where test r rows → Moves rows after outs
   Begun : (holder : Option Session) → working rows ≡ None → after ≡ begun holder rows → endings outs ≡ [] → Moves rows after outs
   RefusedAtBegin : (holder : Option Session) (r : Reply) (a : Asked Command) → working rows ≡ None → eligible holder rows ≡ Some a → after ≡ refused_at_begin r holder rows → endings outs ≡ ending_of a r ∷ [] → Moves rows after outs
@@ -91,7 +91,7 @@ in_work-push (Gone id s q ∷ rows) a = in_work-push rows a
 
 pub moves_in_work : (rows after : Rows) (outs : List Out) → Moves rows after outs → length (in_work rows) ≤ 1 → length (in_work after) ≤ 1
 moves_in_work rows after outs (Unmoved e s) h = rw e h
-moves_in_work rows after outs (Drawn a i e s) h = rw (e, in_work-push rows a) h
+moves_in_work rows after outs (Drawn a i room e s) h = rw (e, in_work-push rows a) h
 moves_in_work rows after outs (EndedWhere test r e s) h = rw e (omega (arith, h, in_work-ended_where test r rows))
 moves_in_work rows after outs (Begun holder w e s) h = rw e (in_work-begun holder rows (in_work-none rows w))
 moves_in_work rows after outs (RefusedAtBegin holder r a w l e s) h = rw (e, in_work-refused_at_begin r holder rows) h
@@ -147,7 +147,7 @@ numbered-push n (row ∷ rows) a i h = (h.0, numbered-push (n + 1) rows a (omega
 
 pub moves_numbered : (rows after : Rows) (outs : List Out) → Moves rows after outs → NumberedFrom 1 rows → NumberedFrom 1 after
 moves_numbered rows after outs (Unmoved e s) h = rw e h
-moves_numbered rows after outs (Drawn a i e s) h = rw e (numbered-push 1 rows a (omega (arith, i)) h)
+moves_numbered rows after outs (Drawn a i room e s) h = rw e (numbered-push 1 rows a (omega (arith, i)) h)
 moves_numbered rows after outs (EndedWhere test r e s) h = rw e (numbered-ended_where 1 test r rows h)
 moves_numbered rows after outs (Begun holder w e s) h = rw e (numbered-begun_as 1 _ holder rows (λ a. refl) h)
 moves_numbered rows after outs (RefusedAtBegin holder r a w l e s) h = rw e (numbered-begun_as 1 _ holder rows (λ a. refl) h)

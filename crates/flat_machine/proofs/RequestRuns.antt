@@ -1,11 +1,13 @@
 -- What is so of the requests of every run.
+use Rattle.flat_machine.proofs.EndingLemmas.{endings-append}
 use Rattle.flat_machine.proofs.PressWalk.{moves_next}
+use Rattle.flat_machine.proofs.QueueLemmas.{moves_count}
 use Rattle.flat_machine.proofs.ReplyLemmas.{moves_endings, moves_gone, of_id-kept_one}
 use Rattle.flat_machine.proofs.RequestMoves.{NumberedFrom, ids-numbered, moves_in_work, moves_numbered}
-use Rattle.flat_machine.proofs.StepWalk.{endings-append}
 use Rattle.flat_machine.specs.Facts.{IsStart, outs_of}
 use Rattle.flat_machine.specs.Machine.{Act, lines_from, next, run_from}
 use Rattle.flat_machine.specs.RequestFacts.{Ending, endings, in_work, kept_endings, of_id, row_id}
+use Rattle.flat_machine.specs.Requests.{pending_count}
 use Rattle.flat_machine.specs.State.{Flat, opening, ready_opening}
 use Rattle.flat_machine.specs.Works.{Setting}
 use Rattle.flat_machine.specs.declared.types.Row.TheVariants.{Gone}
@@ -70,3 +72,6 @@ endings_run set h (a ∷ acts) id n =
 pub endings_told : (set : Setting) (start : Flat) (acts : List Act) (id : ℕ) → IsStart start → of_id id (endings (outs_of (lines_from set start acts))) ≡ of_id id (kept_endings (run_from set start acts).public.requests)
 endings_told set start acts id (inl e) = subst (λ (h : Flat). of_id id (endings (outs_of (lines_from set h acts))) ≡ of_id id (kept_endings (run_from set h acts).public.requests)) (sym e) (sym (endings_run set opening acts id tt))
 endings_told set start acts id (inr e) = subst (λ (h : Flat). of_id id (endings (outs_of (lines_from set h acts))) ≡ of_id id (kept_endings (run_from set h acts).public.requests)) (sym e) (sym (endings_run set ready_opening acts id tt))
+
+pub queue_bound : (set : Setting) (start : Flat) (acts : List Act) (s : Session) → IsStart start → pending_count s (run_from set start acts).public.requests ≤ 16
+queue_bound set start acts s begins = from_start set (λ (h : Flat). pending_count s h.public.requests ≤ 16) (λ h t w. moves_count s h.public.requests (next set h t w).state.public.requests (next set h t w).outs (moves_next set h t w)) (omega arith) (omega arith) start acts begins

@@ -1,44 +1,16 @@
--- Open sessions rise, and the sessions in the line are open and stand in it once.
+-- Open sessions rise, and stay open as others come and go.
+use Rattle.flat_machine.proofs.BoolLemmas.{or_more, or_none, or_right, true_is_not_false}
 use Rattle.flat_machine.specs.Requests.{same_session}
-use Rattle.flat_machine.specs.SessionFacts.{all_open, session_numbers}
-use Rattle.flat_machine.specs.Sessions.{in_line, is_open, listening, out_of_line, with_classes, with_session, without_session}
+use Rattle.flat_machine.specs.SessionFacts.{session_numbers}
+use Rattle.flat_machine.specs.Sessions.{is_open, listening, with_classes, with_session, without_session}
 use Rattle.flat_machine.specs.declared.types.SessionRow.{SessionRow}
 use Rattle.pad_steps.specs.declared.steps.Classes.{Classes}
 use Rattle.pad_words.specs.declared.numbers.Session.{Session}
 use Rattle.std.proofs.Common.{arith, inl, inr, sym, ◌∙◌}
 use Rattle.std.proofs.lemmas.Bool.{eqb-false, eqb-true, ltb-false, ltb-true, ne_eqb}
-use Rattle.std.specs.List.{AllByRecursion, IsDistinct, list_any}
+use Rattle.std.specs.List.{list_any}
 use Rattle.std.specs.List.Sorted.{IsStrictlyIncreasing}
-use Rattle.std.specs.Prelude.{Bool, List, [], cond, false, filter, if◌then◌else◌, nat_lt, not, refl, suc, true, zero, ℕ, ◌&&◌, ◌++◌, ◌+◌, ◌<◌, ◌||◌, ◌∷◌, ◌≡◌, ◌≤◌, ◌⊎◌}
-
-or_left : (a b : Bool) → a ≡ true → (a || b) ≡ true
-or_left true b e = refl
-or_left false b e = cc
-
-or_right : (a b : Bool) → b ≡ true → (a || b) ≡ true
-or_right true b e = refl
-or_right false b e = e
-
-or_none : (a b : Bool) → (a || b) ≡ false → (a ≡ false) × (b ≡ false)
-or_none true b e = cc
-or_none false b e = (refl, e)
-
-or_more : (a b c : Bool) → (b ≡ true → c ≡ true) → (a || b) ≡ true → (a || c) ≡ true
-or_more true b c f e = refl
-or_more false b c f e = f e
-
-both : (a b : Bool) → (a && b) ≡ true → (a ≡ true) × (b ≡ true)
-both true true e = (refl, refl)
-both true false e = cc
-both false b e = cc
-
-and_of : (a b : Bool) → a ≡ true → b ≡ true → (a && b) ≡ true
-and_of true b e f = f
-and_of false b e f = cc
-
-true_is_not_false : (b : Bool) → b ≡ true → b ≡ false → ⊥
-true_is_not_false true e f = cc
-true_is_not_false false e f = cc
+use Rattle.std.specs.Prelude.{Bool, List, [], cond, false, filter, if◌then◌else◌, nat_lt, not, refl, suc, true, zero, ℕ, ◌+◌, ◌<◌, ◌||◌, ◌∷◌, ◌≡◌, ◌≤◌, ◌⊎◌}
 
 -- open sessions rise
 
@@ -79,7 +51,7 @@ rising_if false new row rows e apart h up k =
         by_order (inl k) = k
         by_order (inr e) = absurd (apart e)
 
-rising-with_session : (new : SessionRow) (rows : List SessionRow) → is_open new.session rows ≡ false → Rising rows → Rising (with_session new rows)
+pub rising-with_session : (new : SessionRow) (rows : List SessionRow) → is_open new.session rows ≡ false → Rising rows → Rising (with_session new rows)
 rising-with_session new [] e h = (tt, tt)
 rising-with_session new (row ∷ rows) e h =
     let apart = or_none (same_session row.session new.session) (is_open new.session rows) e in
@@ -97,7 +69,7 @@ rising_kept : (b : Bool) (row : SessionRow) (rows : List SessionRow) → AllAbov
 rising_kept true row rows l h = (l, h)
 rising_kept false row rows l h = h
 
-rising-filter : (test : SessionRow → Bool) (rows : List SessionRow) → Rising rows → Rising (filter test rows)
+pub rising-filter : (test : SessionRow → Bool) (rows : List SessionRow) → Rising rows → Rising (filter test rows)
 rising-filter test [] h = tt
 rising-filter test (row ∷ rows) h = rising_kept (test row) row (filter test rows) (above-filter row.session.number test rows h.0) (rising-filter test rows h.1)
 
@@ -112,7 +84,7 @@ above-with_classes : (n : ℕ) (s : Session) (c : Classes) (rows : List SessionR
 above-with_classes n s c [] h = tt
 above-with_classes n s c (row ∷ rows) h = (rw (session-listening s c row) h.0, above-with_classes n s c rows h.1)
 
-rising-with_classes : (s : Session) (c : Classes) (rows : List SessionRow) → Rising rows → Rising (with_classes s c rows)
+pub rising-with_classes : (s : Session) (c : Classes) (rows : List SessionRow) → Rising rows → Rising (with_classes s c rows)
 rising-with_classes s c [] h = tt
 rising-with_classes s c (row ∷ rows) h = (rw (session-listening s c row) (above-with_classes row.session.number s c rows h.0), rising-with_classes s c rows h.1)
 
@@ -136,11 +108,11 @@ any_if : (p : SessionRow → Bool) (b : Bool) (new row : SessionRow) (rows other
 any_if p true new row rows others f h = or_right (p new) (p row || list_any p rows) h
 any_if p false new row rows others f h = or_more (p row) (list_any p rows) (list_any p others) f h
 
-any-with_session : (p : SessionRow → Bool) (new : SessionRow) (rows : List SessionRow) → list_any p rows ≡ true → list_any p (with_session new rows) ≡ true
+pub any-with_session : (p : SessionRow → Bool) (new : SessionRow) (rows : List SessionRow) → list_any p rows ≡ true → list_any p (with_session new rows) ≡ true
 any-with_session p new [] h = cc
 any-with_session p new (row ∷ rows) h = any_if p (nat_lt new.session.number row.session.number) new row rows (with_session new rows) (any-with_session p new rows) h
 
-open-with_classes : (t s : Session) (c : Classes) (rows : List SessionRow) → is_open t (with_classes s c rows) ≡ is_open t rows
+pub open-with_classes : (t s : Session) (c : Classes) (rows : List SessionRow) → is_open t (with_classes s c rows) ≡ is_open t rows
 open-with_classes t s c [] = refl
 open-with_classes t s c (row ∷ rows) = rw (session-listening s c row, open-with_classes t s c rows) refl
 
@@ -157,97 +129,6 @@ left_if t s row rows others true e apart f h = f (other_is_open (same_session ro
     other_is_open false b h never = h
 left_if t s row rows others false e apart f h = or_more (same_session row.session t) (is_open t rows) (is_open t others) f h
 
-open-without_session : (t s : Session) (rows : List SessionRow) → same_session t s ≡ false → is_open t rows ≡ true → is_open t (without_session s rows) ≡ true
+pub open-without_session : (t s : Session) (rows : List SessionRow) → same_session t s ≡ false → is_open t rows ≡ true → is_open t (without_session s rows) ≡ true
 open-without_session t s [] apart h = cc
 open-without_session t s (row ∷ rows) apart h = left_if t s row rows (without_session s rows) (same_session row.session s) refl apart (open-without_session t s rows apart) h
-
--- the line
-
-all_open-more : (rows others : List SessionRow) (line : List Session) → ((t : Session) → is_open t rows ≡ true → is_open t others ≡ true) → all_open rows line ≡ true → all_open others line ≡ true
-all_open-more rows others [] f h = refl
-all_open-more rows others (s ∷ line) f h =
-    let parts = both (is_open s rows) (all_open rows line) h in
-    and_of (is_open s others) (all_open others line) (f s parts.0) (all_open-more rows others line f parts.1)
-
-all_open_kept : (rows : List SessionRow) (b : Bool) (t : Session) (line : List Session) → (b ≡ true → is_open t rows ≡ true) → all_open rows line ≡ true → all_open rows (cond b (t ∷ line) line) ≡ true
-all_open_kept rows true t line f h = and_of (is_open t rows) (all_open rows line) (f refl) h
-all_open_kept rows false t line f h = h
-
-stays_apart : (b : Bool) → not b ≡ true → b ≡ false
-stays_apart true e = cc
-stays_apart false e = refl
-
--- without a session that leaves, the others of the line stay open
-all_open-left : (s : Session) (rows : List SessionRow) (line : List Session) → all_open rows line ≡ true → all_open (without_session s rows) (out_of_line s line) ≡ true
-all_open-left s rows [] h = refl
-all_open-left s rows (t ∷ line) h =
-    let parts = both (is_open t rows) (all_open rows line) h in
-    all_open_kept (without_session s rows) (not (same_session t s)) t (out_of_line s line) (λ e. open-without_session t s rows (stays_apart (same_session t s) e) parts.0) (all_open-left s rows line parts.1)
-
-all_open-out_of_line : (s : Session) (rows : List SessionRow) (line : List Session) → all_open rows line ≡ true → all_open rows (out_of_line s line) ≡ true
-all_open-out_of_line s rows [] h = refl
-all_open-out_of_line s rows (t ∷ line) h =
-    let parts = both (is_open t rows) (all_open rows line) h in
-    all_open_kept rows (not (same_session t s)) t (out_of_line s line) (λ e. parts.0) (all_open-out_of_line s rows line parts.1)
-
-all_open-push : (s : Session) (rows : List SessionRow) (line : List Session) → is_open s rows ≡ true → all_open rows line ≡ true → all_open rows (line ++ s ∷ []) ≡ true
-all_open-push s rows [] e h = and_of (is_open s rows) true e refl
-all_open-push s rows (t ∷ line) e h =
-    let parts = both (is_open t rows) (all_open rows line) h in
-    and_of (is_open t rows) (all_open rows (line ++ s ∷ [])) parts.0 (all_open-push s rows line e parts.1)
-
--- no session stands in it twice
-
-apart_kept : (t : Session) (b : Bool) (u : Session) (line : List Session) → same_session t u ≡ false → AllByRecursion (λ (v : Session). same_session t v ≡ false) line → AllByRecursion (λ (v : Session). same_session t v ≡ false) (cond b (u ∷ line) line)
-apart_kept t true u line e h = (e, h)
-apart_kept t false u line e h = h
-
-apart-filter : (t : Session) (test : Session → Bool) (line : List Session) → AllByRecursion (λ (v : Session). same_session t v ≡ false) line → AllByRecursion (λ (v : Session). same_session t v ≡ false) (filter test line)
-apart-filter t test [] h = tt
-apart-filter t test (u ∷ line) h = apart_kept t (test u) u (filter test line) h.0 (apart-filter t test line h.1)
-
-distinct_kept : (b : Bool) (t : Session) (line : List Session) → AllByRecursion (λ (v : Session). same_session t v ≡ false) line → IsDistinct same_session line → IsDistinct same_session (cond b (t ∷ line) line)
-unfolding IsDistinct
-distinct_kept true t line h d = (h, d)
-distinct_kept false t line h d = d
-
-distinct-filter : (test : Session → Bool) (line : List Session) → IsDistinct same_session line → IsDistinct same_session (filter test line)
-unfolding IsDistinct
-distinct-filter test [] h = tt
-distinct-filter test (t ∷ line) h = distinct_kept (test t) t (filter test line) (apart-filter t test line h.0) (distinct-filter test line h.1)
-
-apart-push : (t s : Session) (line : List Session) → same_session t s ≡ false → AllByRecursion (λ (v : Session). same_session t v ≡ false) line → AllByRecursion (λ (v : Session). same_session t v ≡ false) (line ++ s ∷ [])
-apart-push t s [] e h = (e, tt)
-apart-push t s (u ∷ line) e h = (h.0, apart-push t s line e h.1)
-
-distinct-push : (s : Session) (line : List Session) → list_any (λ (t : Session). same_session t s) line ≡ false → IsDistinct same_session line → IsDistinct same_session (line ++ s ∷ [])
-unfolding IsDistinct
-distinct-push s [] e h = (tt, tt)
-distinct-push s (t ∷ line) e h =
-    let parts = or_none (same_session t s) (list_any (λ (u : Session). same_session u s) line) e in
-    (apart-push t s line parts.0 h.0, distinct-push s line parts.1 h.1)
-
--- what is so of the sessions and the line
-pub record Orderly (rows : List SessionRow) (line : List Session) : Type 0 where
-  pub rising : Rising rows
-  pub apart : IsDistinct same_session line
-  pub open_ones : all_open rows line ≡ true
-
-pub orderly-open : (new : SessionRow) (rows : List SessionRow) (line : List Session) → is_open new.session rows ≡ false → Orderly rows line → Orderly (with_session new rows) line
-orderly-open new rows line e o = record { rising = rising-with_session new rows e o.rising; apart = o.apart; open_ones = all_open-more rows (with_session new rows) line (λ t. any-with_session (λ (row : SessionRow). same_session row.session t) new rows) o.open_ones }
-
-pub orderly-close : (s : Session) (rows : List SessionRow) (line : List Session) → Orderly rows line → Orderly (without_session s rows) (out_of_line s line)
-orderly-close s rows line o = record { rising = rising-filter _ rows o.rising; apart = distinct-filter _ line o.apart; open_ones = all_open-left s rows line o.open_ones }
-
-pub orderly-listen : (s : Session) (c : Classes) (rows : List SessionRow) (line : List Session) → Orderly rows line → Orderly (with_classes s c rows) line
-orderly-listen s c rows line o = record { rising = rising-with_classes s c rows o.rising; apart = o.apart; open_ones = all_open-more rows (with_classes s c rows) line (λ t e. open-with_classes t s c rows ∙ e) o.open_ones }
-
-pub orderly-unlock : (s : Session) (rows : List SessionRow) (line : List Session) → Orderly rows line → Orderly rows (out_of_line s line)
-orderly-unlock s rows line o = record { rising = o.rising; apart = distinct-filter _ line o.apart; open_ones = all_open-out_of_line s rows line o.open_ones }
-
-orderly_if : (s : Session) (rows : List SessionRow) (line : List Session) (b : Bool) → list_any (λ (t : Session). same_session t s) line ≡ b → is_open s rows ≡ true → Orderly rows line → Orderly rows (if b then line else line ++ s ∷ [])
-orderly_if s rows line true e is o = o
-orderly_if s rows line false e is o = record { rising = o.rising; apart = distinct-push s line e o.apart; open_ones = all_open-push s rows line is o.open_ones }
-
-pub orderly-lock : (s : Session) (rows : List SessionRow) (line : List Session) → is_open s rows ≡ true → Orderly rows line → Orderly rows (in_line s line)
-orderly-lock s rows line is o = orderly_if s rows line (list_any (λ (t : Session). same_session t s) line) refl is o

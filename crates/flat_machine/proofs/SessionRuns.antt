@@ -1,8 +1,10 @@
 -- What is so of the sessions and the line of every run.
+use Rattle.flat_machine.proofs.LineLemmas.{Orderly, orderly-close, orderly-listen, orderly-lock, orderly-open, orderly-unlock}
 use Rattle.flat_machine.proofs.PressWalk.{walk_press}
 use Rattle.flat_machine.proofs.RequestRuns.{from_start}
-use Rattle.flat_machine.proofs.SessionLemmas.{Orderly, increasing, orderly-close, orderly-listen, orderly-lock, orderly-open, orderly-unlock}
+use Rattle.flat_machine.proofs.SessionLemmas.{increasing}
 use Rattle.flat_machine.proofs.StepWalk.{Walks, walk_begin, walk_cancel, walk_finish, walk_if, walk_if_open, walk_loads, walk_nothing, walk_power, walk_submit, walk_tick}
+use Rattle.flat_machine.proofs.SubmitLemmas.{submit_room}
 use Rattle.flat_machine.specs.EntrySteps.{next_press}
 use Rattle.flat_machine.specs.Facts.{IsStart}
 use Rattle.flat_machine.specs.Machine.{Act, next, run_from}
@@ -56,7 +58,7 @@ next_orderly set h (step.Close s) w o = orderly_own h.public o s _ (λ e. orderl
 next_orderly set h (step.Listen s c) w o = orderly_own h.public o s _ (λ e. orderly-listen s c h.public.sessions h.public.line o)
 next_orderly set h (step.Lock s) w o = orderly_own h.public o s _ (λ e. orderly-lock s h.public.sessions h.public.line e o)
 next_orderly set h (step.Unlock s) w o = orderly_own h.public o s _ (λ e. orderly_cond (holds s h.public.line) _ _ (orderly-unlock s h.public.sessions h.public.line o) o)
-next_orderly set h (step.Submit s limit c) w o = orderly_walk h.public o _ (walk_submit h.public (submit_refusal set.works h.public s c) s limit c)
+next_orderly set h (step.Submit s limit c) w o = orderly_walk h.public o _ (walk_submit h.public (submit_refusal set.works h.public s c) s limit c (submit_room set.works h.public s c))
 next_orderly set h (step.Cancel s id) w o = orderly_walk h.public o _ (walk_if_open h.public s _ (walk_cancel h.public s id (pending_where (is_canceled h.public s id) h.public.requests)))
 next_orderly set h step.Begin w o = orderly_walk h.public o _ (walk_begin h.public)
 next_orderly set h step.Finish w o = orderly_walk h.public o _ (walk_finish set h.public h.held (working h.public.requests) w refl)

@@ -1,4 +1,6 @@
 -- Every step keeps a state sound.
+use Rattle.flat_machine.proofs.PassLemmas.{allowed-on, pass-all_ended, pass-begun, pass-ended_where, pass-finished, pass-push, pass-refused_at_begin, pass-weaken}
+use Rattle.flat_machine.proofs.SubmitLemmas.{submitted_ok}
 use Rattle.flat_machine.specs.Ciphers.{check_value}
 use Rattle.flat_machine.specs.Decisions.{Decided, Goes, Stops}
 use Rattle.flat_machine.specs.Entries.{Entry, active_seen, entered, entry_of, entry_refusal}
@@ -7,31 +9,28 @@ use Rattle.flat_machine.specs.FinishSteps.{crypt_now, delete_now, deletes, devic
 use Rattle.flat_machine.specs.KeyRows.{Change, KeyRows, change_to, changed}
 use Rattle.flat_machine.specs.Machine.{next}
 use Rattle.flat_machine.specs.Power.{loads, replaces}
-use Rattle.flat_machine.specs.RequestSteps.{command_refusal, is_canceled, is_due, or_locked, submit_by, submit_refusal}
-use Rattle.flat_machine.specs.Requests.{begun, eligible, ended_where, finished, may_begin, pending_count, pending_where, refused_at_begin, same_session, working}
+use Rattle.flat_machine.specs.RequestSteps.{is_canceled, is_due, submit_by, submit_refusal}
+use Rattle.flat_machine.specs.Requests.{eligible, ended_where, finished, pending_where, same_session, working}
 use Rattle.flat_machine.specs.SessionSteps.{if_open}
-use Rattle.flat_machine.specs.Sessions.{holder_of, holds, is_open, locked_out}
+use Rattle.flat_machine.specs.Sessions.{holder_of, holds, is_open}
 use Rattle.flat_machine.specs.Sound.{Sound, SubmitsOk, allowed, pending_pass}
 use Rattle.flat_machine.specs.State.{After, Flat, Public, Running, Said, decided, device_refusal, is_off, opening, ready_opening, running, says}
-use Rattle.flat_machine.specs.Works.{Readied, Setting, Works, pin_answer}
+use Rattle.flat_machine.specs.Works.{Readied, Setting, pin_answer}
 use Rattle.flat_machine.specs.declared.types.Asked.{Asked}
 use Rattle.flat_machine.specs.declared.types.Device.{Device}
 use Rattle.flat_machine.specs.declared.types.Device.TheVariants.{Bad, Off, Ready, Stopped}
-use Rattle.flat_machine.specs.declared.types.Row.{Row}
-use Rattle.flat_machine.specs.declared.types.Row.TheVariants.{Gone, InWork, Waiting}
 use Rattle.flat_machine.specs.declared.types.Seen.{Seen}
 use Rattle.flat_machine.specs.declared.types.Seen.TheVariants.{Ended, Ignored, Took}
 use Rattle.key_source.specs.Keys.{has_key}
 use Rattle.key_source.specs.declared.Key.{Key}
 use Rattle.pad_steps.specs.declared.answers.Refusal.{Refusal}
 use Rattle.pad_steps.specs.declared.answers.Reply.{Reply}
-use Rattle.pad_steps.specs.declared.answers.Told.{Told}
 use Rattle.pad_steps.specs.declared.commands.Command.{Command}
 use Rattle.pad_steps.specs.declared.commands.PinRequest.{PinRequest}
 use Rattle.pad_steps.specs.declared.steps.DiskWord.{DiskWord}
 use Rattle.pad_steps.specs.declared.steps.Step.{Step}
 use Rattle.pad_words.specs.declared.numbers.Session.{Session}
-use Rattle.std.specs.Prelude.{Bool, IsTrue, List, None, Option, Some, [], cond, false, if◌then◌else◌, length, nat_le, not, refl, true, ℕ, ◌&&◌, ◌++◌, ◌+◌, ◌==◌, ◌∷◌, ◌≡◌}
+use Rattle.std.specs.Prelude.{Bool, IsTrue, List, None, Option, Some, [], cond, false, length, not, refl, true, ℕ, ◌&&◌, ◌+◌, ◌==◌, ◌∷◌, ◌≡◌}
 use Rattle.pad_steps.specs.declared.answers.Answer.TheVariants as answer
 use Rattle.pad_steps.specs.declared.answers.Out.TheVariants as out
 use Rattle.pad_steps.specs.declared.answers.Refusal.TheVariants as refusal
@@ -40,78 +39,6 @@ use Rattle.pad_steps.specs.declared.answers.Told.TheVariants as told
 use Rattle.pad_steps.specs.declared.commands.Command.TheVariants as command
 use Rattle.pad_steps.specs.declared.steps.DiskWord.TheVariants as word
 use Rattle.pad_steps.specs.declared.steps.Step.TheVariants as step
-
-and_left : (a b : Bool) → (a && b) ≡ true → a ≡ true
-and_left true b h = refl
-and_left false b h = cc
-
-and_right : (a b : Bool) → (a && b) ≡ true → b ≡ true
-and_right true b h = h
-and_right false b h = cc
-
-and_both : (a b : Bool) → a ≡ true → b ≡ true → (a && b) ≡ true
-and_both true b ha hb = hb
-and_both false b ha hb = cc
-
-pass-weaken : (t u : Command → Bool) (rows : List (Row Command Reply)) → ((c : Command) → t c ≡ true → u c ≡ true) → pending_pass t rows ≡ true → pending_pass u rows ≡ true
-pass-weaken t u [] f h = refl
-pass-weaken t u (Waiting a ∷ rows) f h = and_both (u a.command) (pending_pass u rows) (f a.command (and_left (t a.command) (pending_pass t rows) h)) (pass-weaken t u rows f (and_right (t a.command) (pending_pass t rows) h))
-pass-weaken t u (InWork a ∷ rows) f h = and_both (u a.command) (pending_pass u rows) (f a.command (and_left (t a.command) (pending_pass t rows) h)) (pass-weaken t u rows f (and_right (t a.command) (pending_pass t rows) h))
-pass-weaken t u (Gone id s r ∷ rows) f h = pass-weaken t u rows f h
-
-pass_waiting-if : (t : Command → Bool) (b : Bool) (a : Asked Command) (r : Reply) (rows : List (Row Command Reply)) → t a.command ≡ true → pending_pass t rows ≡ true → pending_pass t ((if b then Gone a.id a.session r else Waiting a) ∷ rows) ≡ true
-pass_waiting-if t true a r rows ha h = h
-pass_waiting-if t false a r rows ha h = and_both (t a.command) (pending_pass t rows) ha h
-
-pass_work-if : (t : Command → Bool) (b : Bool) (a : Asked Command) (r : Reply) (rows : List (Row Command Reply)) → t a.command ≡ true → pending_pass t rows ≡ true → pending_pass t ((if b then Gone a.id a.session r else InWork a) ∷ rows) ≡ true
-pass_work-if t true a r rows ha h = h
-pass_work-if t false a r rows ha h = and_both (t a.command) (pending_pass t rows) ha h
-
-pass-ended_where : (t : Command → Bool) (test : Asked Command → Bool) (r : Reply) (rows : List (Row Command Reply)) → pending_pass t rows ≡ true → pending_pass t (ended_where test r rows) ≡ true
-pass-ended_where t test r [] h = refl
-pass-ended_where t test r (Waiting a ∷ rows) h = pass_waiting-if t (test a) a r (ended_where test r rows) (and_left (t a.command) (pending_pass t rows) h) (pass-ended_where t test r rows (and_right (t a.command) (pending_pass t rows) h))
-pass-ended_where t test r (InWork a ∷ rows) h = pass_work-if t (test a) a r (ended_where test r rows) (and_left (t a.command) (pending_pass t rows) h) (pass-ended_where t test r rows (and_right (t a.command) (pending_pass t rows) h))
-pass-ended_where t test r (Gone id s q ∷ rows) h = pass-ended_where t test r rows h
-
--- where all end, none is left
-pass-all_ended : (t : Command → Bool) (r : Reply) (rows : List (Row Command Reply)) → pending_pass t (ended_where (λ a. true) r rows) ≡ true
-pass-all_ended t r [] = refl
-pass-all_ended t r (Waiting a ∷ rows) = pass-all_ended t r rows
-pass-all_ended t r (InWork a ∷ rows) = pass-all_ended t r rows
-pass-all_ended t r (Gone id s q ∷ rows) = pass-all_ended t r rows
-
-pass-finished : (t : Command → Bool) (r : Reply) (rows : List (Row Command Reply)) → pending_pass t rows ≡ true → pending_pass t (finished r rows) ≡ true
-pass-finished t r [] h = refl
-pass-finished t r (Waiting a ∷ rows) h = and_both (t a.command) _ (and_left (t a.command) (pending_pass t rows) h) (pass-finished t r rows (and_right (t a.command) (pending_pass t rows) h))
-pass-finished t r (InWork a ∷ rows) h = and_right (t a.command) (pending_pass t rows) h
-pass-finished t r (Gone id s q ∷ rows) h = pass-finished t r rows h
-
-pass-push : (t : Command → Bool) (rows : List (Row Command Reply)) (a : Asked Command) → pending_pass t rows ≡ true → t a.command ≡ true → pending_pass t (rows ++ Waiting a ∷ []) ≡ true
-pass-push t [] a h ha = and_both (t a.command) true ha refl
-pass-push t (Waiting b ∷ rows) a h ha = and_both (t b.command) _ (and_left (t b.command) (pending_pass t rows) h) (pass-push t rows a (and_right (t b.command) (pending_pass t rows) h) ha)
-pass-push t (InWork b ∷ rows) a h ha = and_both (t b.command) _ (and_left (t b.command) (pending_pass t rows) h) (pass-push t rows a (and_right (t b.command) (pending_pass t rows) h) ha)
-pass-push t (Gone id s q ∷ rows) a h ha = pass-push t rows a h ha
-
-pass_begun-if : (t : Command → Bool) (b : Bool) (a : Asked Command) (row : Row Command Reply) (rows begun_rows : List (Row Command Reply)) → t a.command ≡ true → pending_pass t (row ∷ rows) ≡ true → pending_pass t begun_rows ≡ true
-    → pending_pass t (if b then row ∷ rows else Waiting a ∷ begun_rows) ≡ true
-pass_begun-if t true a row rows others ha h k = h
-pass_begun-if t false a row rows others ha h k = and_both (t a.command) (pending_pass t others) ha k
-
-pass-begun : (t : Command → Bool) (holder : Option Session) (rows : List (Row Command Reply)) → pending_pass t rows ≡ true → pending_pass t (begun holder rows) ≡ true
-pass-begun t holder [] h = refl
-pass-begun t holder (Waiting a ∷ rows) h = pass_begun-if t (may_begin holder a) a (InWork a) rows (begun holder rows) (and_left (t a.command) (pending_pass t rows) h) h (pass-begun t holder rows (and_right (t a.command) (pending_pass t rows) h))
-pass-begun t holder (InWork a ∷ rows) h = and_both (t a.command) _ (and_left (t a.command) (pending_pass t rows) h) (pass-begun t holder rows (and_right (t a.command) (pending_pass t rows) h))
-pass-begun t holder (Gone id s q ∷ rows) h = pass-begun t holder rows h
-
-pass-refused_at_begin : (t : Command → Bool) (r : Reply) (holder : Option Session) (rows : List (Row Command Reply)) → pending_pass t rows ≡ true → pending_pass t (refused_at_begin r holder rows) ≡ true
-pass-refused_at_begin t r holder [] h = refl
-pass-refused_at_begin t r holder (Waiting a ∷ rows) h = pass_begun-if t (may_begin holder a) a (Gone a.id a.session r) rows (refused_at_begin r holder rows) (and_left (t a.command) (pending_pass t rows) h) (and_right (t a.command) (pending_pass t rows) h) (pass-refused_at_begin t r holder rows (and_right (t a.command) (pending_pass t rows) h))
-pass-refused_at_begin t r holder (InWork a ∷ rows) h = and_both (t a.command) _ (and_left (t a.command) (pending_pass t rows) h) (pass-refused_at_begin t r holder rows (and_right (t a.command) (pending_pass t rows) h))
-pass-refused_at_begin t r holder (Gone id s q ∷ rows) h = pass-refused_at_begin t r holder rows h
-
--- a device that is on allows what any device allowed
-allowed-on : (ok : Command → Bool) (d e : Device) (c : Command) → is_off e ≡ false → allowed ok d c ≡ true → allowed ok e c ≡ true
-allowed-on ok d e c on h = and_both (ok c) (not (is_off e)) (and_left (ok c) (not (is_off d)) h) (rw on refl)
 
 module _ (ok : Command → Bool) (p : Public) (sound : Sound ok p) where
   sound_if : (b : Bool) (x y : Said) → Sound ok x.public → Sound ok y.public → Sound ok (cond b x y).public
@@ -199,25 +126,6 @@ module _ (ok : Command → Bool) (p : Public) (sound : Sound ok p) where
   sound_finish : (set : Setting) (held : List ℕ) (o : Option (Asked Command)) (w : DiskWord) → Sound ok (finish_with set p held o w).public
   sound_finish set held None w = sound
   sound_finish set held (Some a) w = sound_finish_by set held a a.command w
-
--- a Submit that is not refused finds the device on, and a command that passes
-none_if : {A : Type 0} → (b : Bool) (r : A) (o : Option A) → (if b then Some r else o) ≡ None → (b ≡ false) × (o ≡ None)
-none_if true r o e = absurd (some_none r e)
-  where
-    some_none : {A : Type 0} → (r : A) → Some r ≡ None → ⊥
-    some_none r e = cc
-none_if false r o e = (refl, e)
-
-none_locked : (x : Option Session) (o : Option Refusal) → or_locked x o ≡ None → o ≡ None
-none_locked None o e = e
-none_locked (Some x) o e = cc
-
-submitted_ok : (ok : Command → Bool) (works : Works) (p : Public) (s : Session) (c : Command) → (command_refusal works c ≡ None → IsTrue (ok c)) → submit_refusal works p s c ≡ None → allowed ok p.device c ≡ true
-submitted_ok ok works p s c good e =
-    let is_on = none_if (not (is_open s p.sessions)) refusal.NoSession _ e in
-    let device = none_if (is_off p.device) refusal.ConnectionLost _ is_on.1 in
-    let room = none_if (nat_le 16 (pending_count s p.requests)) (refusal.QueueFull 16) _ (none_locked (locked_out s p.line) _ device.1) in
-    and_both (ok c) (not (is_off p.device)) (good room.1) (rw device.0 refl)
 
 press_if : (ok : Command → Bool) (b : Bool) (x y : After) → Sound ok x.state.public → Sound ok y.state.public → Sound ok (cond b x y).state.public
 press_if ok true x y one other = one

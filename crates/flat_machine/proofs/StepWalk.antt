@@ -1,5 +1,6 @@
--- What each kind of step does to the requests, the sessions, the line and the part buffer.
-use Rattle.flat_machine.proofs.RequestMoves.{Begun, Drawn, EndedWhere, Finished, Moves, RefusedAtBegin, Rows, Unmoved, ending_of, endings_where}
+-- What each kind of step but Press, and but those of sessions, does to the requests, the sessions, the line and the part buffer.
+use Rattle.flat_machine.proofs.EndingLemmas.{endings-accuses, endings-ended, endings-execute_event, endings-service_events}
+use Rattle.flat_machine.proofs.RequestMoves.{Begun, Drawn, EndedWhere, Finished, Moves, RefusedAtBegin, Rows, Unmoved, ending_of}
 use Rattle.flat_machine.specs.Ciphers.{Ciphers, check_value}
 use Rattle.flat_machine.specs.Decisions.{Decided, Goes, Stops}
 use Rattle.flat_machine.specs.Entries.{Entry, entry_of, entry_refusal, is_key_part}
@@ -8,18 +9,16 @@ use Rattle.flat_machine.specs.FinishSteps.{crypt_now, delete_now, deletes, devic
 use Rattle.flat_machine.specs.Imports.{is_part}
 use Rattle.flat_machine.specs.KeyRows.{Change, KeyRows, change_to, changed}
 use Rattle.flat_machine.specs.Power.{loads, powers_off, replaces}
-use Rattle.flat_machine.specs.RequestFacts.{Ending, ending_in, endings}
+use Rattle.flat_machine.specs.RequestFacts.{Ending}
 use Rattle.flat_machine.specs.RequestSteps.{cancels, is_canceled, is_due, next_tick, submit_by}
-use Rattle.flat_machine.specs.Requests.{eligible, pending_where, same_session, working}
+use Rattle.flat_machine.specs.Requests.{eligible, pending_count, working}
 use Rattle.flat_machine.specs.SessionSteps.{if_open}
-use Rattle.flat_machine.specs.Sessions.{execute_event, grants, grants_after, holder_of, holds, is_open, out_of_line, service_events}
-use Rattle.flat_machine.specs.State.{Public, Said, accuses, decided, device_refusal, ends, is_off, refuses, replies, says, unchanged, with_outs_before}
+use Rattle.flat_machine.specs.Sessions.{holder_of, is_open}
+use Rattle.flat_machine.specs.State.{Public, Said, decided, device_refusal, ends, is_off, refuses, replies, says, unchanged, with_outs_before}
 use Rattle.flat_machine.specs.Works.{Readied, Setting, pin_answer}
 use Rattle.flat_machine.specs.declared.types.Asked.{Asked}
-use Rattle.flat_machine.specs.declared.types.Row.TheVariants.{Gone, InWork, Waiting}
 use Rattle.flat_machine.specs.declared.types.SessionRow.{SessionRow}
 use Rattle.key_attributes.specs.declared.KeyRow.{KeyRow}
-use Rattle.pad_steps.specs.declared.answers.Event.{Event}
 use Rattle.pad_steps.specs.declared.answers.Out.{Out}
 use Rattle.pad_steps.specs.declared.answers.Refusal.{Refusal}
 use Rattle.pad_steps.specs.declared.answers.Reply.{Reply}
@@ -29,9 +28,8 @@ use Rattle.pad_steps.specs.declared.commands.ImportRequest.{ImportRequest}
 use Rattle.pad_steps.specs.declared.commands.PinRequest.{PinRequest}
 use Rattle.pad_steps.specs.declared.steps.DiskWord.{DiskWord}
 use Rattle.pad_words.specs.declared.numbers.Session.{Session}
-use Rattle.std.proofs.Common.{ap, append_assoc, inl, inr, sym, ◌∙◌}
-use Rattle.std.specs.List.{list_any}
-use Rattle.std.specs.Prelude.{Bool, List, None, Option, Some, [], cond, false, filter, if◌then◌else◌, length, map, not, refl, slice_get, take, true, ℕ, ◌&&◌, ◌++◌, ◌+◌, ◌==◌, ◌∷◌, ◌≡◌, ◌⊎◌}
+use Rattle.std.proofs.Common.{ap, inl, inr}
+use Rattle.std.specs.Prelude.{Bool, List, None, Option, Some, [], cond, false, if◌then◌else◌, length, nat_le, not, refl, slice_get, take, true, ℕ, ◌&&◌, ◌+◌, ◌==◌, ◌∷◌, ◌≡◌, ◌⊎◌}
 use Rattle.pad_steps.specs.declared.answers.Answer.TheVariants as answer
 use Rattle.pad_steps.specs.declared.answers.Event.TheVariants as event
 use Rattle.pad_steps.specs.declared.answers.Out.TheVariants as out
@@ -40,52 +38,6 @@ use Rattle.pad_steps.specs.declared.answers.Reply.TheVariants as reply
 use Rattle.pad_steps.specs.declared.answers.Told.TheVariants as told
 use Rattle.pad_steps.specs.declared.commands.Command.TheVariants as command
 use Rattle.pad_steps.specs.declared.steps.DiskWord.TheVariants as word
-
--- ends that outs tell of
-
-pub endings-append : (xs ys : List Out) → endings (xs ++ ys) ≡ endings xs ++ endings ys
-endings-append [] ys = refl
-endings-append (o ∷ xs) ys = ap (λ (es : List Ending). ending_in o ++ es) (endings-append xs ys) ∙ sym (append_assoc (ending_in o) (endings xs) (endings ys))
-
-ended_if : (b : Bool) (a : Asked Command) (r : Reply) (xs : List (Asked Command)) (es : List Ending) → endings (map (λ (x : Asked Command). out.Ended x.session x.id r) xs) ≡ es
-    → endings (map (λ (x : Asked Command). out.Ended x.session x.id r) (if b then a ∷ xs else xs)) ≡ (if b then ending_of a r ∷ es else es)
-ended_if true a r xs es e = ap (λ (ys : List Ending). ending_of a r ∷ ys) e
-ended_if false a r xs es e = e
-
-pub endings-ended : (test : Asked Command → Bool) (r : Reply) (rows : Rows) → endings (map (λ (a : Asked Command). out.Ended a.session a.id r) (pending_where test rows)) ≡ endings_where test r rows
-endings-ended test r [] = refl
-endings-ended test r (Waiting a ∷ rows) = ended_if (test a) a r (pending_where test rows) (endings_where test r rows) (endings-ended test r rows)
-endings-ended test r (InWork a ∷ rows) = ended_if (test a) a r (pending_where test rows) (endings_where test r rows) (endings-ended test r rows)
-endings-ended test r (Gone id s q ∷ rows) = endings-ended test r rows
-
-event_if : (b : Bool) (s : Session) (e : Event) → endings (if b then out.Event s e ∷ [] else []) ≡ []
-event_if true s e = refl
-event_if false s e = refl
-
-pub endings-execute_event : (rows : List SessionRow) (s : Session) (e : Event) → endings (execute_event rows s e) ≡ []
-endings-execute_event rows s e = event_if (list_any (λ row. same_session row.session s && row.classes.execute) rows) s e
-
-endings-heard : (rows : List SessionRow) (e : Event) → endings (map (λ (row : SessionRow). out.Event row.session e) rows) ≡ []
-endings-heard [] e = refl
-endings-heard (row ∷ rows) e = endings-heard rows e
-
-pub endings-service_events : (rows : List SessionRow) (e : Event) → endings (service_events rows e) ≡ []
-endings-service_events rows e = endings-heard (filter (λ (row : SessionRow). row.classes.service) rows) e
-
-endings-accuses : (p : Public) (accused : Option (List ℕ)) (r : Refusal) → endings (accuses p accused r) ≡ []
-endings-accuses p None r = refl
-endings-accuses p (Some name) r = endings-service_events p.sessions (event.IllegalKeyAccess name r)
-
-pub endings-grants : (line : List Session) → endings (grants line) ≡ []
-endings-grants [] = refl
-endings-grants (s ∷ line) = refl
-
-none_if_ends : (b : Bool) (xs : List Out) → endings xs ≡ [] → endings (if b then xs else []) ≡ []
-none_if_ends true xs e = e
-none_if_ends false xs e = refl
-
-pub endings-grants_after : (s : Session) (line : List Session) → endings (grants_after s line) ≡ []
-endings-grants_after s line = none_if_ends (holds s line) (grants (out_of_line s line)) (endings-grants (out_of_line s line))
 
 -- a step that is none of a session's own: sessions and line stay, and the part buffer stays or is emptied
 pub record Walk (rows : Rows) (open_ones : List SessionRow) (line_before : List Session) (part_before : List ℕ) (effect : Said) : Type 0 where
@@ -118,16 +70,16 @@ module _ (p : Public) where
   pub walk_ends : (test : Asked Command → Bool) (r : Refusal) → Walks p (ends test r p)
   walk_ends test r = record { moves = EndedWhere test (reply.No r) refl (endings-ended test (reply.No r) p.requests); sessions = refl; line = refl; part = inl refl }
 
-  pub walk_submit : (o : Option Refusal) (s : Session) (limit : ℕ) (c : Command) → Walks p (submit_by o p s limit c)
-  walk_submit (Some r) s limit c = record { moves = Unmoved refl refl; sessions = refl; line = refl; part = inl refl }
-  walk_submit None s limit c = record { moves = Drawn (record { id = length p.requests + 1; session = s; submitted = p.clock; limit = limit; command = c }) refl refl refl; sessions = refl; line = refl; part = inl refl }
+  pub walk_submit : (o : Option Refusal) (s : Session) (limit : ℕ) (c : Command) → (o ≡ None → nat_le 16 (pending_count s p.requests) ≡ false) → Walks p (submit_by o p s limit c)
+  walk_submit (Some r) s limit c room = record { moves = Unmoved refl refl; sessions = refl; line = refl; part = inl refl }
+  walk_submit None s limit c room = record { moves = Drawn (record { id = length p.requests + 1; session = s; submitted = p.clock; limit = limit; command = c }) refl (room refl) refl refl; sessions = refl; line = refl; part = inl refl }
 
   walk_before : (s : Session) (t : Told) (x : Said) → Walks p x → Walks p (with_outs_before (out.Told s t ∷ []) x)
   walk_before s t x one = record { moves = moved one.moves; sessions = one.sessions; line = one.line; part = one.part }
     where
       moved : {after : Rows} {outs : List Out} → Moves p.requests after outs → Moves p.requests after (out.Told s t ∷ outs)
       moved (Unmoved e q) = Unmoved e q
-      moved (Drawn a i e q) = Drawn a i e q
+      moved (Drawn a i room e q) = Drawn a i room e q
       moved (EndedWhere test r e q) = EndedWhere test r e q
       moved (Begun holder w e q) = Begun holder w e q
       moved (RefusedAtBegin holder r a w l e q) = RefusedAtBegin holder r a w l e q

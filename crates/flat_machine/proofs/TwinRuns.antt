@@ -1,4 +1,5 @@
 -- Twins, step by step, print alike.
+use Rattle.flat_machine.proofs.BoolLemmas.{both}
 use Rattle.flat_machine.proofs.Unwinding.{alike_self, flat, masked_alike, masked_press, same_alike, same_shape}
 use Rattle.flat_machine.specs.Machine.{Act, lines_from, masked, next, next_work, release, releases_from, run_from, shown_step, status}
 use Rattle.flat_machine.specs.Power.{word_fate}

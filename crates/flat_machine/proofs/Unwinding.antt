@@ -1,12 +1,13 @@
 -- The unwinding law of one step, and of runs.
 use Rattle.flat_machine.proofs.EntryLemmas.{acts_alike, length-entered, plain_presses}
-use Rattle.flat_machine.proofs.TwinLemmas.{Drops, Keeps, KeepsEntry, keeps_begin, keeps_cancel, keeps_close, keeps_finish, keeps_if, keeps_loads, keeps_of_open, keeps_open, keeps_power, keeps_submit, keeps_tick, keeps_unlock, same_finish, shape_with}
+use Rattle.flat_machine.proofs.EntryStays.{Drops, Keeps, KeepsEntry, keeps_begin, keeps_cancel, keeps_close, keeps_finish, keeps_if, keeps_if_open, keeps_loads, keeps_open, keeps_power, keeps_submit, keeps_tick, keeps_unlock}
+use Rattle.flat_machine.proofs.TwinLemmas.{same_finish, shape_with}
 use Rattle.flat_machine.specs.Ciphers.{Ciphers}
 use Rattle.flat_machine.specs.Entries.{Entry, active_seen, entered, is_key_part, is_pin}
-use Rattle.flat_machine.specs.EntrySteps.{ends_entry, entry_answer, after_entry, press_in, press_seen}
+use Rattle.flat_machine.specs.EntrySteps.{after_entry, ends_entry, entry_answer, press_in, press_seen}
 use Rattle.flat_machine.specs.Machine.{masked, next, release, secret_in}
 use Rattle.flat_machine.specs.RequestSteps.{is_canceled, next_ask, submit_refusal}
-use Rattle.flat_machine.specs.Requests.{finished, pending_where, same_session, working}
+use Rattle.flat_machine.specs.Requests.{finished, pending_where, working}
 use Rattle.flat_machine.specs.Sessions.{execute_event}
 use Rattle.flat_machine.specs.State.{After, Flat, Public, Running, Said, after_said, is_off, running}
 use Rattle.flat_machine.specs.Twins.{Alike, AlikeAfter, AlikeEntries, AlikeKeys, AlikePresses}
@@ -17,19 +18,19 @@ use Rattle.key_source.specs.Keys.{has_key}
 use Rattle.key_source.specs.declared.Key.{Key}
 use Rattle.pad_steps.specs.declared.answers.Answer.{Answer}
 use Rattle.pad_steps.specs.declared.answers.Completion.{Completion}
-use Rattle.pad_steps.specs.declared.steps.DiskWord.{DiskWord}
-use Rattle.pad_steps.specs.declared.commands.EntryKind.{EntryKind}
 use Rattle.pad_steps.specs.declared.answers.Shown.{Shown}
-use Rattle.pad_steps.specs.declared.steps.Step.{Step}
+use Rattle.pad_steps.specs.declared.commands.EntryKind.{EntryKind}
 use Rattle.pad_steps.specs.declared.commands.Verify.{Verify}
+use Rattle.pad_steps.specs.declared.steps.DiskWord.{DiskWord}
+use Rattle.pad_steps.specs.declared.steps.Step.{Step}
 use Rattle.std.proofs.Common.{ap, inl, inr, subst, sym}
 use Rattle.std.specs.Prelude.{Bool, List, None, Option, Some, [], cond, false, if◌then◌else◌, is_some, length, nat_lt, refl, true, ℕ, ◌++◌, ◌∷◌, ◌≡◌}
+use Rattle.pad_steps.specs.declared.answers.Answer.TheVariants as answer
+use Rattle.pad_steps.specs.declared.answers.Event.TheVariants as event
 use Rattle.pad_steps.specs.declared.answers.Out.TheVariants as out
 use Rattle.pad_steps.specs.declared.answers.Reply.TheVariants as reply
-use Rattle.pad_steps.specs.declared.answers.Event.TheVariants as event
-use Rattle.pad_steps.specs.declared.answers.Answer.TheVariants as answer
-use Rattle.pad_steps.specs.declared.steps.Step.TheVariants as step
 use Rattle.pad_steps.specs.declared.commands.EntryKind.TheVariants as entry_kind
+use Rattle.pad_steps.specs.declared.steps.Step.TheVariants as step
 
 abbrev pub flat : Public → List Key → List ℕ → Flat
 flat p ks d = record { public = p; presses = ks; held = d }
@@ -146,16 +147,16 @@ module _ (set : Setting) (p : Public) (hp gp : List Key) (hd gd : List ℕ) (few
   pub same_alike : (s : Step) (w : DiskWord) → AlikeEntries (running p) hp gp → release set (flat p gp gd) s ≡ release set (flat p hp hd) s → AlikeAfter (next set (flat p hp hd) s w) (next set (flat p gp gd) s w)
   same_alike (step.Open s) w alike e = said_alike _ (keeps_open p s) alike
   same_alike (step.Close s) w alike e = said_alike _ (keeps_close p s) alike
-  same_alike (step.Listen s c) w alike e = said_alike _ (keeps_of_open p s _ (Keeps refl)) alike
-  same_alike (step.Lock s) w alike e = said_alike _ (keeps_of_open p s _ (Keeps refl)) alike
+  same_alike (step.Listen s c) w alike e = said_alike _ (keeps_if_open p s _ (Keeps refl)) alike
+  same_alike (step.Lock s) w alike e = said_alike _ (keeps_if_open p s _ (Keeps refl)) alike
   same_alike (step.Unlock s) w alike e = said_alike _ (keeps_unlock p s) alike
   same_alike (step.Submit s limit c) w alike e = said_alike _ (keeps_submit p s limit c (submit_refusal set.works p s c)) alike
-  same_alike (step.Cancel s id) w alike e = said_alike _ (keeps_of_open p s _ (keeps_cancel p s id (pending_where (is_canceled p s id) p.requests))) alike
+  same_alike (step.Cancel s id) w alike e = said_alike _ (keeps_if_open p s _ (keeps_cancel p s id (pending_where (is_canceled p s id) p.requests))) alike
   same_alike step.Begin w alike e = said_alike _ (keeps_begin p) alike
   same_alike step.Finish w alike e = two_said _ _ (same_finish set p hd gd few (working p.requests) w e) (keeps_finish set p hd (working p.requests) w) alike
   same_alike (step.Press k) w alike e = press_alike (running p) k k refl alike (same_key_in (running p) k)
   same_alike (step.Tick n) w alike e = said_alike _ (keeps_tick p n) alike
-  same_alike (step.Ask s q) w alike e = two_said _ _ (ap (λ (n : ℕ). next_ask set.cipher p (nat_lt 0 n) s q) few) (keeps_of_open p s _ (Keeps refl)) alike
+  same_alike (step.Ask s q) w alike e = two_said _ _ (ap (λ (n : ℕ). next_ask set.cipher p (nat_lt 0 n) s q) few) (keeps_if_open p s _ (Keeps refl)) alike
   same_alike step.Off w alike e = said_alike _ (keeps_if p (is_off p.device) _ _ (Keeps refl) (keeps_power p p refl)) alike
   same_alike step.Boot w alike e = said_alike _ (keeps_if p (is_off p.device) _ _ (keeps_loads p w) (Keeps refl)) alike
 

@@ -36,13 +36,29 @@ greatest_length most = if most == 0 then 16 else most
 
 -- the entry of the rules of a PIN or of data
 abbrev pub entry_by : EntryKind → EntryRules → Entry
-entry_by kind rules = record { kind = kind; least = rules.min; greatest = greatest_length rules.max; auto_end = rules.auto_end; active = rules.active; terminate = rules.terminate; check = verify.Nothing }
+entry_by kind rules = record {
+  kind = kind;
+  least = rules.min;
+  greatest = greatest_length rules.max;
+  auto_end = rules.auto_end;
+  active = rules.active;
+  terminate = rules.terminate;
+  check = verify.Nothing;
+}
 
 -- the entry that a command asks for: GET_PIN, GET_DATA, and SECUREKEY_ENTRY, whose two lengths are its count; no other command is an entry
 abbrev pub entry_of : Command → Option Entry
 entry_of (commands.GetPin rules) = Some (entry_by entry_kind.Pin rules)
 entry_of (commands.GetData rules) = Some (entry_by entry_kind.Figures rules)
-entry_of (commands.SecureKeyEntry rules) = Some (record { kind = entry_kind.Part; least = rules.count; greatest = rules.count; auto_end = rules.auto_end; active = rules.active; terminate = rules.terminate; check = rules.verify })
+entry_of (commands.SecureKeyEntry rules) = Some (record {
+  kind = entry_kind.Part;
+  least = rules.count;
+  greatest = rules.count;
+  auto_end = rules.auto_end;
+  active = rules.active;
+  terminate = rules.terminate;
+  check = rules.verify;
+})
 entry_of (commands.MaintainPin on) = None
 entry_of (commands.Pin request) = None
 entry_of (commands.Crypt request) = None

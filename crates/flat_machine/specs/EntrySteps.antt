@@ -39,7 +39,9 @@ first_of (Some refusal) rest = Some refusal
 
 -- an entry that is refused ends at once and clears nothing but presses; else it starts
 abbrev pub begin_entry : Public → Asked Command → Entry → Option Refusal → Said
-begin_entry public request entry (Some refusal) = dropping_presses true (says (record public { requests = refused_at_begin (replied.No refusal) (holder_of public.line) public.requests }) (out.Ended request.session request.id (replied.No refusal)))
+begin_entry public request entry (Some refusal) = dropping_presses true (says
+    (record public { requests = refused_at_begin (replied.No refusal) (holder_of public.line) public.requests })
+    (out.Ended request.session request.id (replied.No refusal)))
 begin_entry public request entry None = starts public request entry
 
 -- a request comes into work; an entry is refused by the device or by its rules, or starts
@@ -71,25 +73,34 @@ module _ (cipher : Ciphers) where
 
   -- the public part after an entry: its request ended, and a key part's digits are in the part buffer
   abbrev pub after_entry : Public → Running → Shown → Completion → List ℕ → Public
-  after_entry public current shown completion digits = record public { requests = finished (replied.Ok (entry_answer current.entry.kind current.entry.check completion digits)) public.requests; part = if is_key_part current.entry.kind then digits else public.part }
+  after_entry public current shown completion digits = record public {
+    requests = finished (replied.Ok (entry_answer current.entry.kind current.entry.check completion digits)) public.requests;
+    part = if is_key_part current.entry.kind then digits else public.part;
+  }
 
   -- the entry ends: KEY and then the reply are sent, the presses are dropped, and a PIN's digits are held
   abbrev pub ends_entry : Flat → Running → Key → Shown → Completion → List ℕ → After
   ends_entry state current key shown completion digits = record {
     state = record { public = after_entry state.public current shown completion digits; presses = []; held = if is_pin current.entry.kind then digits else state.held };
-    outs = execute_event state.public.sessions current.session (events.Key shown) ++ out.Ended current.session current.id (replied.Ok (entry_answer current.entry.kind current.entry.check completion digits)) ∷ [];
+    outs = execute_event state.public.sessions current.session (events.Key shown)
+        ++ out.Ended current.session current.id (replied.Ok (entry_answer current.entry.kind current.entry.check completion digits)) ∷ [];
   }
 
   -- what an active key does: it is ignored, taken and shown, or ends the entry
   abbrev pub press_seen : Flat → Running → Key → Seen → After
   press_seen state current key Ignored = record { state = record state { presses = key ∷ state.presses }; outs = [] }
-  press_seen state current key (Took shown) = record { state = record state { presses = key ∷ state.presses }; outs = execute_event state.public.sessions current.session (events.Key shown) }
+  press_seen state current key (Took shown) = record {
+    state = record state { presses = key ∷ state.presses };
+    outs = execute_event state.public.sessions current.session (events.Key shown);
+  }
   press_seen state current key (Ended shown completion) = ends_entry state current key shown completion (entered current.entry (key ∷ state.presses))
 
   -- without an entry, or where the key is not active, nothing happens
   abbrev pub press_in : Flat → Option Running → Key → After
   press_in state None key = record { state = state; outs = [] }
-  press_in state (Some current) key = if has_key current.entry.active key then press_seen state current key (active_seen current.entry (length (entered current.entry state.presses)) key) else record { state = state; outs = [] }
+  press_in state (Some current) key = if has_key current.entry.active key
+      then press_seen state current key (active_seen current.entry (length (entered current.entry state.presses)) key)
+      else record { state = state; outs = [] }
 
   -- Press
   abbrev pub next_press : Flat → Key → After

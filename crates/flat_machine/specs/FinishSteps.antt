@@ -54,7 +54,8 @@ maintains public request on = dropping_pin (not on) (replies (record public { ma
 
 -- IMPORT_KEY, done: answered by the new value's check value; an import from the part buffer empties it
 abbrev pub imports : Ciphers → Asked Command → ImportRequest → KeyRow → Public → Said
-imports cipher request importing row public = replies (record public { part = if is_part importing.source then [] else public.part }) request (replied.Ok (answers.Key (check_value cipher importing.verify row.value)))
+imports cipher request importing row public = replies (record public { part = if is_part importing.source then [] else public.part })
+    request (replied.Ok (answers.Key (check_value cipher importing.verify row.value)))
 
 -- INITIALIZATION, done: the held PIN and the part buffer are cleared, and INITIALIZED is sent after the reply; maintain stays
 abbrev pub inits : Asked Command → Public → Said
@@ -111,7 +112,8 @@ module _ (set : Setting) where
   finish_by public held request (commands.MaintainPin on) word = decided public request (maintain_now public on) (maintains public request)
   finish_by public held request (commands.Pin wanted) word = finish_pin public held request wanted (pin_now set.works public (length held) wanted)
   finish_by public held request (commands.Crypt wanted) word = decided public request (crypt_now set.cipher public wanted) (λ answer. replies public request (replied.Ok answer))
-  finish_by public held request (commands.ImportKey wanted) word = decided public request (import_now set.cipher public wanted) (λ new. replaces public request (change_to new ∷ []) (imports set.cipher request wanted new.1) word)
+  finish_by public held request (commands.ImportKey wanted) word = decided public request (import_now set.cipher public wanted)
+      (λ new. replaces public request (change_to new ∷ []) (imports set.cipher request wanted new.1) word)
   finish_by public held request (commands.DeleteKey name) word = decided public request (delete_now public name) (λ change. replaces public request (change ∷ []) (deletes request) word)
   finish_by public held request commands.Init word = decided public request (init_now public) (λ todo. replaces public request todo (inits request) word)
   finish_by public held request commands.Reset word = resets public request word

@@ -3,11 +3,12 @@ use Rattle.flat_machine.specs.Machine.{Act, fits, masked, next}
 use Rattle.flat_machine.specs.Power.{word_fate}
 use Rattle.flat_machine.specs.State.{Flat, opening}
 use Rattle.flat_machine.specs.Works.{Setting}
+use Rattle.pad_steps.specs.Lines.{Line}
+use Rattle.pad_steps.specs.declared.answers.Out.{Out}
 use Rattle.pad_steps.specs.declared.steps.DiskWord.{DiskWord}
 use Rattle.pad_steps.specs.declared.steps.Fate.{Fate}
-use Rattle.pad_steps.specs.declared.answers.Out.{Out}
 use Rattle.pad_steps.specs.declared.steps.Step.{Step}
-use Rattle.std.specs.Prelude.{Bool, IsTrue, List, Option, [], ◌∷◌, ◌≡◌}
+use Rattle.std.specs.Prelude.{Bool, IsTrue, List, None, Option, Some, [], if◌then◌else◌, ◌∷◌, ◌≡◌}
 
 -- what came of a step: its word, what it said, whether it was masked, and the fate of a loading
 pub record Outcome : Type 0 where
@@ -25,6 +26,15 @@ pub record HistoryEntry : Type 0 where
 abbrev pub act_of : HistoryEntry → Act
 act_of entry = record { step = entry.op; word = entry.outcome.word }
 
+-- what is printed of an entry: its step, unless it was masked, and its outcome
+abbrev pub line_of_entry : HistoryEntry → Line
+line_of_entry entry = record {
+  shown = if entry.outcome.masked then None else Some entry.op;
+  word = entry.outcome.word;
+  fate = entry.outcome.fate;
+  outs = entry.outcome.outs;
+}
+
 module _ (set : Setting) where
   -- the outcome that the machine gives in a state
   abbrev pub outcome_of : Flat → Act → Outcome
@@ -33,7 +43,9 @@ module _ (set : Setting) where
   -- from this state every word fits, and each outcome is the machine's after the entries before it
   abbrev pub LegalFrom : Flat → List HistoryEntry → Type 0
   LegalFrom state [] = Unit {0}
-  LegalFrom state (entry ∷ rest) = IsTrue (fits set state.public entry.op entry.outcome.word) × (entry.outcome ≡ outcome_of state (act_of entry)) × LegalFrom (next set state entry.op entry.outcome.word).state rest
+  LegalFrom state (entry ∷ rest) = IsTrue (fits set state.public entry.op entry.outcome.word)
+      × (entry.outcome ≡ outcome_of state (act_of entry))
+      × LegalFrom (next set state entry.op entry.outcome.word).state rest
 
   -- legal from the opening
   abbrev pub Legal : List HistoryEntry → Type 0

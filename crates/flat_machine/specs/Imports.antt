@@ -54,6 +54,10 @@ abbrev pub of_other_length : ℕ → Option KeyRow → Bool
 of_other_length size None = false
 of_other_length size (Some old) = not (length old.value == size)
 
+-- the length of the value does not do: it is no key length, longer than the key-encrypting key, or another than that of the key under construction
+abbrev pub wrong_value_length : ℕ → Option (List ℕ) → Option KeyRow → Bool
+wrong_value_length size kek old = not (is_key_length size) || longer_than_key size kek || of_other_length size old
+
 -- the value XORed with that of the key under construction, if there is one
 abbrev pub joined : Option KeyRow → List ℕ → List ℕ
 joined None value = value
@@ -98,7 +102,7 @@ module _ (cipher : Ciphers) where
   abbrev pub decide_row : List ℕ → ImportRequest → Option KeyRow → Option (List ℕ) → Decided KeyRow
   decide_row part request old kek =
       unless ((is_part request.source && (length part == 0)) || refuses_part old request) refusals.AccessDenied
-      (unless (not (is_key_length (length (given_bytes part request.source))) || longer_than_key (length (given_bytes part request.source)) kek || of_other_length (length (given_bytes part request.source)) old) refusals.InvalidKeyLength
+      (unless (wrong_value_length (length (given_bytes part request.source)) kek old) refusals.InvalidKeyLength
       (Goes (new_row request old kek (given_bytes part request.source))))
 
   -- the slot and the new row, or the first refusal: of the key-encrypting key; ACCESSDENIED; INVALIDKEYLENGTH; DUPLICATEKEY; TABLEFULL

@@ -45,14 +45,22 @@ pub record KeptAfter : Type 0 where
 
 -- an effect on what is kept: what is dropped becomes empty
 abbrev pub kept_said : Kept → Said → KeptAfter
-kept_said kept effect = record { state = record { public = effect.public; digits = if effect.drops_presses then [] else kept.digits; held = if effect.drops_pin then [] else kept.held }; outs = effect.outs }
+kept_said kept effect = record {
+  state = record {
+    public = effect.public;
+    digits = if effect.drops_presses then [] else kept.digits;
+    held = if effect.drops_pin then [] else kept.held;
+  };
+  outs = effect.outs;
+}
 
 module _ (set : Setting) where
   -- the entry ends with these digits
   abbrev pub kept_ends : Kept → Running → Shown → Completion → List ℕ → KeptAfter
   kept_ends kept current shown completion digits = record {
     state = record { public = after_entry set.cipher kept.public current shown completion digits; digits = []; held = if is_pin current.entry.kind then digits else kept.held };
-    outs = execute_event kept.public.sessions current.session (events.Key shown) ++ out.Ended current.session current.id (replied.Ok (entry_answer set.cipher current.entry.kind current.entry.check completion digits)) ∷ [];
+    outs = execute_event kept.public.sessions current.session (events.Key shown)
+        ++ out.Ended current.session current.id (replied.Ok (entry_answer set.cipher current.entry.kind current.entry.check completion digits)) ∷ [];
   }
 
   -- what an active key does, at the digits after it

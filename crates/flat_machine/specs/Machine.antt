@@ -1,4 +1,4 @@
--- The flat machine: one step, and a run of steps. Open this file first. `next` has one line for each of the fourteen kinds of step; each leads to the file that defines it. Then read, in this order: State (what a state is), Sessions and SessionSteps, Requests and RequestSteps, Entries and EntrySteps, Decisions, KeyRows, Imports, Crypts, Works, Standard and FinishSteps, Power and Arms; above them Twins, Kept, Sound, Histories, StoreHistory and Facts.
+-- The flat machine: one step, and a run of steps. Open this file first. `next` has one line for each of the fourteen kinds of step; each leads to the file that defines it. Then read, in this order: State (what a state is), Sessions and SessionSteps, Requests and RequestSteps, Entries and EntrySteps, Decisions, KeyRows, Imports, Crypts, Works, Standard and FinishSteps, Power and Arms; above them Twins, Kept, Sound, Histories, StoreHistory, and the words of the laws in Facts, RequestFacts, RefusalFacts, SessionFacts, KeyFacts and PinFacts.
 use Rattle.flat_machine.specs.Entries.{Entry, entry_of, is_secret}
 use Rattle.flat_machine.specs.EntrySteps.{next_begin, next_press}
 use Rattle.flat_machine.specs.FinishSteps.{next_finish, plan_finish, release_with}

@@ -29,7 +29,8 @@ loads public (words.Bad slot) = unchanged (record public { device = Bad slot })
 abbrev pub replaces : Public → Asked Command → List Change → (Public → Said) → DiskWord → Said
 replaces public request todo done words.Quiet = done (record public { keys = changed todo public.keys })
 replaces public request todo done words.Done = done (record public { keys = changed todo public.keys })
-replaces public request todo done (words.Failed count) = replies (record public { device = Stopped; keys = changed (take count todo) public.keys; doubt = slice_get todo count }) request (replied.No refusals.HardwareError)
+replaces public request todo done (words.Failed count) =
+    replies (record public { device = Stopped; keys = changed (take count todo) public.keys; doubt = slice_get todo count }) request (replied.No refusals.HardwareError)
 replaces public request todo done (words.Cut count) = powers_off (record public { keys = changed (take count todo) public.keys; doubt = slice_get todo count })
 replaces public request todo done (words.Loaded rows) = done (record public { keys = changed todo public.keys })
 replaces public request todo done (words.Bad slot) = done (record public { keys = changed todo public.keys })

@@ -108,7 +108,9 @@ submit_refusal works public session command = if not (is_open session public.ses
 -- a refused Submit draws no id and changes nothing; else the request gets the next id, from 1 on, and waits
 abbrev pub submit_by : Option Refusal → Public → Session → ℕ → Command → Said
 submit_by (Some refusal) public session limit command = says public (out.Refused session refusal)
-submit_by None public session limit command = says (record public { requests = public.requests ++ Waiting (record { id = length public.requests + 1; session = session; submitted = public.clock; limit = limit; command = command }) ∷ [] }) (out.Request session (length public.requests + 1))
+submit_by None public session limit command = says
+    (record public { requests = public.requests ++ Waiting (record { id = length public.requests + 1; session = session; submitted = public.clock; limit = limit; command = command }) ∷ [] })
+    (out.Request session (length public.requests + 1))
 
 -- Submit
 abbrev pub next_submit : Works → Public → Session → ℕ → Command → Said

@@ -2,6 +2,7 @@
 use Rattle.flat_machine.specs.Requests.{same_session}
 use Rattle.flat_machine.specs.Sessions.{told_lock, grants, grants_after, holds, in_line, is_open, locked_out, out_of_line, with_classes, with_session, without_session}
 use Rattle.flat_machine.specs.State.{Public, Said, with_outs_after, ends, said, says}
+use Rattle.flat_machine.specs.declared.types.SessionRow.{SessionRow}
 use Rattle.pad_steps.specs.declared.steps.Classes.{Classes}
 use Rattle.pad_words.specs.declared.numbers.Session.{Session}
 use Rattle.std.specs.Prelude.{false, if◌then◌else◌, length, ◌∷◌}
@@ -13,10 +14,14 @@ use Rattle.pad_steps.specs.declared.answers.Refusal.TheVariants as refusals
 abbrev pub if_open : Public → Session → Said → Said
 if_open public session effect = if is_open session public.sessions then effect else says public (out.Told session (told.No refusals.NoSession))
 
+-- the row of a session that is opened now
+abbrev pub opened_by : Public → Session → SessionRow
+opened_by public session = record { session = session; classes = record { service = false; execute = false }; floor = length public.requests }
+
 -- Open: told ALREADYOPEN where it is open; else it is open, listens to nothing, and its floor is the last id drawn
 abbrev pub next_open : Public → Session → Said
 next_open public session = if is_open session public.sessions then says public (out.Told session (told.No refusals.AlreadyOpen))
-    else says (record public { sessions = with_session (record { session = session; classes = record { service = false; execute = false }; floor = length public.requests }) public.sessions }) (out.Told session told.Opened)
+    else says (record public { sessions = with_session (opened_by public session) public.sessions }) (out.Told session told.Opened)
 
 -- Close: the session's pending requests end CANCELED, it is told closed, it leaves the line, and where it held the lock the next is granted it
 abbrev pub next_close : Public → Session → Said

@@ -74,19 +74,19 @@ unchanged public = said public []
 
 -- the effect with these outs before its own
 abbrev pub with_outs_before : List Out → Said → Said
-with_outs_before outs effect = record { public = effect.public; outs = outs ++ effect.outs; drops_pin = effect.drops_pin; drops_presses = effect.drops_presses }
+with_outs_before outs effect = record effect { outs = outs ++ effect.outs }
 
 -- the effect, and the presses are dropped where the test holds
 abbrev pub dropping_presses : Bool → Said → Said
-dropping_presses test effect = record { public = effect.public; outs = effect.outs; drops_pin = effect.drops_pin; drops_presses = test || effect.drops_presses }
+dropping_presses test effect = record effect { drops_presses = test || effect.drops_presses }
 
 -- the effect, and the held PIN is dropped where the test holds
 abbrev pub dropping_pin : Bool → Said → Said
-dropping_pin test effect = record { public = effect.public; outs = effect.outs; drops_pin = test || effect.drops_pin; drops_presses = effect.drops_presses }
+dropping_pin test effect = record effect { drops_pin = test || effect.drops_pin }
 
 -- the effect with these outs after its own
 abbrev pub with_outs_after : List Out → Said → Said
-with_outs_after outs effect = record { public = effect.public; outs = effect.outs ++ outs; drops_pin = effect.drops_pin; drops_presses = effect.drops_presses }
+with_outs_after outs effect = record effect { outs = effect.outs ++ outs }
 
 -- the state after a step, and what the step said
 pub record After : Type 0 where
@@ -95,7 +95,14 @@ pub record After : Type 0 where
 
 -- an effect on a state: what is dropped becomes empty
 abbrev pub after_said : Flat → Said → After
-after_said state effect = record { state = record { public = effect.public; presses = if effect.drops_presses then [] else state.presses; held = if effect.drops_pin then [] else state.held }; outs = effect.outs }
+after_said state effect = record {
+  state = record {
+    public = effect.public;
+    presses = if effect.drops_presses then [] else state.presses;
+    held = if effect.drops_pin then [] else state.held;
+  };
+  outs = effect.outs;
+}
 
 -- the entry that runs: the id and the session of its request, and its rules
 pub record Running : Type 0 where
@@ -157,7 +164,9 @@ work_ends test (Some request) = test request
 
 -- the pending requests that pass the test end with this refusal, in order of their ids; the presses are dropped where the request in work is one of them
 abbrev pub ends : (Asked Command → Bool) → Refusal → Public → Said
-ends test refusal public = dropping_presses (work_ends test (working public.requests)) (said (record public { requests = ended_where test (replied.No refusal) public.requests }) (map (λ request. out.Ended request.session request.id (replied.No refusal)) (pending_where test public.requests)))
+ends test refusal public = dropping_presses (work_ends test (working public.requests)) (said
+    (record public { requests = ended_where test (replied.No refusal) public.requests })
+    (map (λ request. out.Ended request.session request.id (replied.No refusal)) (pending_where test public.requests)))
 
 -- the request in work ends with this reply
 abbrev pub replies : Public → Asked Command → Reply → Said

@@ -42,7 +42,9 @@ module _ (set : Setting) where
   -- two runs from a state with the same words, whose steps differ in masked presses alone
   abbrev pub TwinsFrom : Flat → List Act → List Act → Type 0
   TwinsFrom state [] [] = Unit {0}
-  TwinsFrom state (first ∷ firsts) (second ∷ seconds) = (second.word ≡ first.word) × TwinSteps state.public first.step second.step × TwinsFrom (next set state first.step first.word).state firsts seconds
+  TwinsFrom state (first ∷ firsts) (second ∷ seconds) = (second.word ≡ first.word)
+      × TwinSteps state.public first.step second.step
+      × TwinsFrom (next set state first.step first.word).state firsts seconds
   TwinsFrom state [] (second ∷ seconds) = ⊥
   TwinsFrom state (first ∷ firsts) [] = ⊥
 

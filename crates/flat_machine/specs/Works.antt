@@ -38,7 +38,8 @@ pub record Readied : Type 0 where
 module _ (works : Works) where
   -- the work is ready at this PIN length with these keys, or refuses
   abbrev pub decide_ready : PinRequest → ℕ → List ℕ → Option (List ℕ) → Decided Readied
-  decide_ready request count first second = and_then (works.ready request count (length first) (option_map length second)) (λ draws. Goes (record { first = first; second = second; draws = draws }))
+  decide_ready request count first second = and_then (works.ready request count (length first) (option_map length second))
+      (λ draws. Goes (record { first = first; second = second; draws = draws }))
 
   -- whether a PIN command may go on at a PIN of this many digits, or the first refusal: of the first key; of the second key; NOPIN; of the work by length. No digit is among the arguments
   abbrev pub decide_pin : KeyRows → ℕ → PinRequest → Decided Readied

@@ -1,6 +1,10 @@
 //! Laws of the definitions, by theme. Each law is a function with an empty body, called for its clauses.
 
+pub mod histories;
 pub mod kept;
+pub mod keys;
+pub mod pins;
+pub mod refusals;
 pub mod requests;
 pub mod runs;
 pub mod sessions;

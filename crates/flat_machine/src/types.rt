@@ -1,4 +1,4 @@
-//! Types that the code keeps and that the state names. Each moves to the crate of its part.
+//! Types of the state that the code has too.
 
 use pad_steps::{Classes, Completion, Shown};
 use pad_words::Session;

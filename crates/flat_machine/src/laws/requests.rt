@@ -1,13 +1,21 @@
 //! What is so of the requests of every run.
 
-ghost use Rattle.std.specs.Prelude.{◌≡◌, ◌≤◌, List, ℕ, Some, length, map, slice_get};
+ghost use Rattle.std.specs.Prelude.{◌≡◌, ◌<◌, ◌≤◌, IsTrue, List, ℕ, Some, length, map, slice_get};
 ghost use Rattle.std.specs.List.{range_with_len};
 ghost use Rattle.pad_words.specs.declared.numbers.Session.{Session};
+ghost use Rattle.pad_steps.specs.declared.answers.Out.TheVariants as out;
+ghost use Rattle.pad_steps.specs.declared.answers.Refusal.TheVariants as refusals;
 ghost use Rattle.pad_steps.specs.declared.answers.Reply.{Reply};
+ghost use Rattle.pad_steps.specs.declared.answers.Told.TheVariants as told;
+ghost use Rattle.pad_steps.specs.declared.steps.DiskWord.{DiskWord};
+ghost use Rattle.pad_steps.specs.declared.steps.Question.TheVariants as questions;
+ghost use Rattle.pad_steps.specs.declared.steps.Step.TheVariants as steps;
 ghost use Rattle.flat_machine.specs.declared.types.Row.TheVariants.{Gone};
+ghost use Rattle.flat_machine.specs.Requests.{pending_count};
 ghost use Rattle.flat_machine.specs.Works.{Setting};
-ghost use Rattle.flat_machine.specs.State.{Flat};
-ghost use Rattle.flat_machine.specs.Machine.{Act, run_from, lines_from};
+ghost use Rattle.flat_machine.specs.State.{Flat, after_said, says};
+ghost use Rattle.flat_machine.specs.Sessions.{floor_of, is_open};
+ghost use Rattle.flat_machine.specs.Machine.{Act, next, run_from, lines_from};
 ghost use Rattle.flat_machine.specs.Facts.{IsStart, outs_of};
 ghost use Rattle.flat_machine.specs.RequestFacts.{row_id, in_work, endings, kept_endings, of_id};
 
@@ -30,4 +38,15 @@ pub fn replies_stay()
 pub fn one_reply()
     ensures told { (set : Setting) (start : Flat) (acts : List Act) (id : ℕ) → IsStart start → of_id id (endings (outs_of (lines_from set start acts))) ≡ of_id id (kept_endings (run_from set start acts).public.requests) }
     ensures once { (set : Setting) (start : Flat) (acts : List Act) (id : ℕ) → IsStart start → length (of_id id (kept_endings (run_from set start acts).public.requests)) ≤ 1 }
+{}
+
+/// At most 16 requests of a session are pending.
+pub fn queue_bound()
+    ensures { (set : Setting) (start : Flat) (acts : List Act) (session : Session) → IsStart start → pending_count session (run_from set start acts).public.requests ≤ 16 }
+{}
+
+/// A session sees no request at or below its floor: to Cancel and to Ask such an id is none of its own.
+pub fn floor_hides()
+    ensures cancel { (set : Setting) (state : Flat) (session : Session) (id : ℕ) (word : DiskWord) → IsTrue (is_open session state.public.sessions) → 0 < id → id ≤ floor_of session state.public.sessions → next set state (steps.Cancel session id) word ≡ after_said state (says state.public (out.Told session (told.No refusals.InvalidReqId))) }
+    ensures ask { (set : Setting) (state : Flat) (session : Session) (id : ℕ) (word : DiskWord) → IsTrue (is_open session state.public.sessions) → id ≤ floor_of session state.public.sessions → next set state (steps.Ask session (questions.Reply id)) word ≡ after_said state (says state.public (out.Told session (told.No refusals.InvalidReqId))) }
 {}
