@@ -1,9 +1,11 @@
 -- The first piece of a script, and its line.
 use Rattle.std.proofs.Common.{add-one, ap, append_assoc, arith, sym, ◌∙◌}
+use Rattle.std.proofs.lemmas.Bool.{eqb-true}
 use Rattle.std.proofs.lemmas.List.{drop-drop, take_rest}
-use Rattle.std.specs.Prelude.{Bool, List, None, Option, Some, [], drop, false, if◌then◌else◌, length, refl, suc, take, true, ℕ, ◌++◌, ◌+◌, ◌-◌, ◌<◌, ◌==◌, ◌∷◌, ◌≡◌}
+use Rattle.std.specs.List.{list_all}
+use Rattle.std.specs.Prelude.{Bool, List, None, Option, Some, [], drop, false, if◌then◌else◌, length, refl, suc, take, true, ℕ, ◌++◌, ◌+◌, ◌-◌, ◌<◌, ◌==◌, ◌∷◌, ◌≡◌, IsTrue, flat_map, not, ◌&&◌}
 use Rattle.pinpad_cli.specs.Cuts.{feed_at}
-use Rattle.pinpad_cli.specs.Script.{lines_of_pieces, pieces_of, with_byte, with_empty_piece, with_line}
+use Rattle.pinpad_cli.specs.Script.{is_feedless, lines_of_pieces, pieces_of, with_byte, with_empty_piece, with_feed, with_line}
 use Rattle.script_lang.specs.Reading.{line_of}
 use Rattle.script_lang.specs.declared.kinds.Line.{Line}
 
@@ -101,3 +103,50 @@ pub cut-bad : (all : Option (List Line)) (script shown : List ℕ) (lines : List
 cut-bad all script shown lines at is bad so_far =
     let rest : shown ≡ drop at script = is ∙ take_rest script at in
     so_far ∙ with_lines-none lines (lines_of_pieces (pieces_of (drop at script))) (ap (λ (bytes : List ℕ). lines_of_pieces (pieces_of bytes)) (sym rest) ∙ bad)
+
+-- a script is its pieces, each with its line feed
+feed-first : (byte : ℕ) → (byte == 10) ≡ true → byte ≡ 10
+feed-first byte same = eqb-true byte 10 same
+
+some-eq : (found : List (List ℕ)) (pieces : List (List ℕ)) → Some found ≡ Some pieces → found ≡ pieces
+some-eq found pieces same = cc
+
+pub pieces_of-cut : (script : List ℕ) (pieces : List (List ℕ)) → pieces_of script ≡ Some pieces → script ≡ flat_map with_feed pieces
+pieces_of-cut [] pieces is = ap (λ (all : List (List ℕ)). flat_map with_feed all) (some-eq [] pieces is)
+pieces_of-cut (byte ∷ bytes) pieces is = cut-first (byte == 10) byte bytes (pieces_of bytes) pieces refl refl is (pieces_of-cut bytes)
+  where
+    cut-first : (is_feed : Bool) (byte : ℕ) (bytes : List ℕ) (found : Option (List (List ℕ))) (pieces : List (List ℕ)) → (byte == 10) ≡ is_feed → pieces_of bytes ≡ found
+        → (if is_feed then with_empty_piece found else with_byte byte found) ≡ Some pieces
+        → ((rest : List (List ℕ)) → pieces_of bytes ≡ Some rest → bytes ≡ flat_map with_feed rest)
+        → byte ∷ bytes ≡ flat_map with_feed pieces
+    cut-first true byte bytes None pieces same found is rest = cc
+    cut-first true byte bytes (Some more) pieces same found is rest =
+        ap (λ (b : ℕ). b ∷ bytes) (feed-first byte same) ∙ ap (λ (bs : List ℕ). 10 ∷ bs) (rest more found) ∙ ap (λ (all : List (List ℕ)). flat_map with_feed all) (some-eq ([] ∷ more) pieces is)
+    cut-first false byte bytes None pieces same found is rest = cc
+    cut-first false byte bytes (Some []) pieces same found is rest = cc
+    cut-first false byte bytes (Some (piece ∷ more)) pieces same found is rest =
+        ap (λ (bs : List ℕ). byte ∷ bs) (rest (piece ∷ more) found) ∙ ap (λ (all : List (List ℕ)). flat_map with_feed all) (some-eq ((byte ∷ piece) ∷ more) pieces is)
+
+pieces_of-piece : (piece rest : List ℕ) → IsTrue (is_feedless piece) → pieces_of (piece ++ 10 ∷ rest) ≡ with_piece piece (pieces_of rest)
+pieces_of-piece [] rest free = with_piece-none (pieces_of rest)
+pieces_of-piece (byte ∷ bytes) rest free = byte-first (byte == 10) byte bytes rest refl free (pieces_of-piece bytes rest)
+  where
+    byte-first : (is_feed : Bool) (byte : ℕ) (bytes rest : List ℕ) → (byte == 10) ≡ is_feed → IsTrue (not (byte == 10) && is_feedless bytes)
+        → (IsTrue (is_feedless bytes) → pieces_of (bytes ++ 10 ∷ rest) ≡ with_piece bytes (pieces_of rest))
+        → (if byte == 10 then with_empty_piece (pieces_of (bytes ++ 10 ∷ rest)) else with_byte byte (pieces_of (bytes ++ 10 ∷ rest))) ≡ with_piece (byte ∷ bytes) (pieces_of rest)
+    byte-first true byte bytes rest same free more = let no : IsTrue (not true && is_feedless bytes) = rw same at free in cc
+    byte-first false byte bytes rest same free more = rw same (ap (with_byte byte) (more (rw same at free)) ∙ with_byte-with_piece byte bytes (pieces_of rest))
+
+pub pieces_of-joined : (pieces : List (List ℕ)) → IsTrue (list_all is_feedless pieces) → pieces_of (flat_map with_feed pieces) ≡ Some pieces
+pieces_of-joined [] free = refl
+pieces_of-joined (piece ∷ pieces) free =
+    ap pieces_of (append_assoc piece (10 ∷ []) (flat_map with_feed pieces)) ∙ pieces_of-piece piece (flat_map with_feed pieces) (and-left (is_feedless piece) (list_all is_feedless pieces) free)
+    ∙ ap (with_piece piece) (pieces_of-joined pieces (and-right (is_feedless piece) (list_all is_feedless pieces) free))
+  where
+    and-left : (a b : Bool) → IsTrue (a && b) → IsTrue a
+    and-left true b both = refl
+    and-left false b both = cc
+
+    and-right : (a b : Bool) → IsTrue (a && b) → IsTrue b
+    and-right true b both = both
+    and-right false b both = cc

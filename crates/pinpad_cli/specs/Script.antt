@@ -1,5 +1,6 @@
 -- The lines of a script.
-use Rattle.std.specs.Prelude.{List, None, Option, Some, [], if◌then◌else◌, length, nat_le, ℕ, ◌==◌, ◌∷◌}
+use Rattle.std.specs.Prelude.{Bool, List, None, Option, Some, [], if◌then◌else◌, length, nat_le, not, ℕ, ◌++◌, ◌==◌, ◌∷◌}
+use Rattle.std.specs.List.{list_all}
 use Rattle.script_lang.specs.Reading.{line_of}
 use Rattle.script_lang.specs.declared.kinds.Line.{Line}
 
@@ -18,6 +19,14 @@ with_byte byte (Some (piece ∷ pieces)) = Some ((byte ∷ piece) ∷ pieces)
 abbrev pub pieces_of : List ℕ → Option (List (List ℕ))
 pieces_of [] = Some []
 pieces_of (byte ∷ bytes) = if byte == 10 then with_empty_piece (pieces_of bytes) else with_byte byte (pieces_of bytes)
+
+-- a piece with its line feed
+abbrev pub with_feed : List ℕ → List ℕ
+with_feed piece = piece ++ 10 ∷ []
+
+-- no byte of the piece is a line feed
+abbrev pub is_feedless : List ℕ → Bool
+is_feedless piece = list_all (λ byte. not (byte == 10)) piece
 
 -- a line before others, where all are there
 abbrev pub with_line : Option Line → Option (List Line) → Option (List Line)

@@ -1,7 +1,8 @@
 // A script cut into lines.
-ghost use Rattle.std.specs.Prelude.{◌≡◌, ◌<◌, ◌≤◌, ◌++◌, ◌∷◌, [], All, IfNone, IfOk, IfSome, IsTrue, None, OnOk, Some, drop, length};
+ghost use Rattle.std.specs.Prelude.{◌≡◌, ◌<◌, ◌≤◌, ◌++◌, ◌∷◌, [], All, IfNone, IfOk, IfSome, IsTrue, List, None, OnOk, Some, drop, flat_map, length, ℕ};
+ghost use Rattle.std.specs.List.{list_all};
 ghost use Rattle.pinpad_cli.specs.Cuts.{feed_at, items_of, IsBuilt};
-ghost use Rattle.pinpad_cli.specs.Script.{lines_of, lines_of_pieces, pieces_of, with_line};
+ghost use Rattle.pinpad_cli.specs.Script.{is_feedless, lines_of, lines_of_pieces, pieces_of, with_feed, with_line};
 
 use crate::reading::LONGEST_SCRIPT;
 use pad_words::NoMemory;
@@ -20,6 +21,12 @@ pub fn script_lines(alloc: Global, script: &[u8]) -> Result<Option<Vec<Line>>, N
     }
     cut(alloc, script)
 }
+
+/// A script is its pieces, each with its line feed; and pieces without a line feed, joined so, are cut again.
+pub fn pieces_end_with_feeds()
+    ensures joined { (script : List ℕ) (pieces : List (List ℕ)) → pieces_of script ≡ Some pieces → script ≡ flat_map with_feed pieces }
+    ensures cut { (pieces : List (List ℕ)) → IsTrue (list_all is_feedless pieces) → pieces_of (flat_map with_feed pieces) ≡ Some pieces }
+{}
 
 // The lines of a text of any length.
 fn cut(alloc: Global, script: &[u8]) -> Result<Option<Vec<Line>>, NoMemory>
