@@ -1,6 +1,6 @@
 -- What a digit of a PIN does not change.
 use Rattle.flat_machine.specs.Entries.{Entry, active_seen, after_digit, after_other, after_value, digit_in, digit_seen, entered, is_pin, is_secret, shown_digit, value_seen}
-use Rattle.flat_machine.specs.Requests.{same}
+use Rattle.flat_machine.specs.Requests.{same_session}
 use Rattle.flat_machine.specs.Twins.{AlikeKeys, AlikePresses}
 use Rattle.key_source.specs.Keys.{has_key}
 use Rattle.key_source.specs.declared.Key.{Key}
@@ -43,19 +43,19 @@ length-after_value e (Some v) k xs ys same = length-after_digit e xs ys v v same
 pub record ActsAlike (e : Entry) (a b : Key) : Type 0 where
   pub active : has_key e.active b ≡ has_key e.active a
   pub seen : (n : ℕ) → active_seen e n b ≡ active_seen e n a
-  pub count : (xs ys : List ℕ) → length ys ≡ length xs → length (after_value e (digit_in e.sort b) b ys) ≡ length (after_value e (digit_in e.sort a) a xs)
+  pub count : (xs ys : List ℕ) → length ys ≡ length xs → length (after_value e (digit_in e.kind b) b ys) ≡ length (after_value e (digit_in e.kind a) a xs)
 
 acts_same : (e : Entry) (a : Key) → ActsAlike e a a
-acts_same e a = record { active = refl; seen = λ n. refl; count = λ xs ys same. length-after_value e (digit_in e.sort a) a xs ys same }
+acts_same e a = record { active = refl; seen = λ n. refl; count = λ xs ys same. length-after_value e (digit_in e.kind a) a xs ys same }
 
 shown_pin : (s : EntryKind) (k : Key) → is_pin s ≡ true → shown_digit s k ≡ shown.Masked
 shown_pin entry_kind.Pin k is = refl
 shown_pin entry_kind.Figures k is = cc
 shown_pin entry_kind.Part k is = cc
 
-value_seen-pin : (e : Entry) (o : Option ℕ) (n : ℕ) (k : Key) → is_some o ≡ true → is_pin e.sort ≡ true → value_seen e o n k ≡ digit_seen e n shown.Masked
+value_seen-pin : (e : Entry) (o : Option ℕ) (n : ℕ) (k : Key) → is_some o ≡ true → is_pin e.kind ≡ true → value_seen e o n k ≡ digit_seen e n shown.Masked
 value_seen-pin e None n k some is = cc
-value_seen-pin e (Some v) n k some is = ap (λ (s : Shown). digit_seen e n s) (shown_pin e.sort k is)
+value_seen-pin e (Some v) n k some is = ap (λ (s : Shown). digit_seen e n s) (shown_pin e.kind k is)
 
 length-after_digits : (e : Entry) (o q : Option ℕ) (a b : Key) (xs ys : List ℕ) → is_some o ≡ true → is_some q ≡ true → length ys ≡ length xs → length (after_value e q b ys) ≡ length (after_value e o a xs)
 length-after_digits e None q a b xs ys so sq same = cc
@@ -64,12 +64,12 @@ length-after_digits e (Some v) (Some u) a b xs ys so sq same = length-after_digi
 
 acts_secret : (e : Entry) (a b : Key) → is_secret e a ≡ true → is_secret e b ≡ true → ActsAlike e a b
 acts_secret e a b sa sb =
-    let pa = and_parts (is_pin e.sort) (is_some (digit_in e.sort a)) (has_key e.active a) sa in
-    let pb = and_parts (is_pin e.sort) (is_some (digit_in e.sort b)) (has_key e.active b) sb in
+    let pa = and_parts (is_pin e.kind) (is_some (digit_in e.kind a)) (has_key e.active a) sa in
+    let pb = and_parts (is_pin e.kind) (is_some (digit_in e.kind b)) (has_key e.active b) sb in
     record {
       active = pb.2 ∙ sym pa.2;
-      seen = λ n. value_seen-pin e (digit_in e.sort b) n b pb.1 pb.0 ∙ sym (value_seen-pin e (digit_in e.sort a) n a pa.1 pa.0);
-      count = λ xs ys same. length-after_digits e (digit_in e.sort a) (digit_in e.sort b) a b xs ys pa.1 pb.1 same;
+      seen = λ n. value_seen-pin e (digit_in e.kind b) n b pb.1 pb.0 ∙ sym (value_seen-pin e (digit_in e.kind a) n a pa.1 pa.0);
+      count = λ xs ys same. length-after_digits e (digit_in e.kind a) (digit_in e.kind b) a b xs ys pa.1 pb.1 same;
     }
 
 pub acts_alike : (e : Entry) (a b : Key) → AlikeKeys e a b → ActsAlike e a b
@@ -87,16 +87,16 @@ length-entered e (a ∷ xs) [] alike = absurd alike
 true_is_false : true ≡ false → ⊥
 true_is_false h = cc
 
-plain_key : (e : Entry) (a b : Key) → is_pin e.sort ≡ false → AlikeKeys e a b → b ≡ a
+plain_key : (e : Entry) (a b : Key) → is_pin e.kind ≡ false → AlikeKeys e a b → b ≡ a
 plain_key e a b plain (inl same) = sym same
 plain_key e a b plain (inr secret) =
-    let pa = and_parts (is_pin e.sort) (is_some (digit_in e.sort a)) (has_key e.active a) secret.0 in
+    let pa = and_parts (is_pin e.kind) (is_some (digit_in e.kind a)) (has_key e.active a) secret.0 in
     absurd (true_is_false (sym pa.0 ∙ plain))
 
 two_lists : (a b : Key) (xs ys : List Key) → b ≡ a → ys ≡ xs → b ∷ ys ≡ a ∷ xs
 two_lists a b xs ys e f = rw (e, f) refl
 
-pub plain_presses : (e : Entry) (xs ys : List Key) → is_pin e.sort ≡ false → AlikePresses e xs ys → ys ≡ xs
+pub plain_presses : (e : Entry) (xs ys : List Key) → is_pin e.kind ≡ false → AlikePresses e xs ys → ys ≡ xs
 plain_presses e [] [] plain alike = refl
 plain_presses e (a ∷ xs) (b ∷ ys) plain alike = two_lists a b xs ys (plain_key e a b plain alike.0) (plain_presses e xs ys plain alike.1)
 plain_presses e [] (b ∷ ys) plain alike = absurd alike

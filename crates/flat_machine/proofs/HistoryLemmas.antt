@@ -3,7 +3,7 @@ use Rattle.flat_machine.proofs.TwinRuns.{heads, twin_next, twin_shape}
 use Rattle.flat_machine.proofs.Unwinding.{alike_self, masked_press}
 use Rattle.flat_machine.specs.Machine.{Act, fits, line_of, lines_from, next, plan, release, releases_from, run_from}
 use Rattle.flat_machine.specs.Power.{Nothing, Plan, fits_plan}
-use Rattle.flat_machine.specs.Requests.{same}
+use Rattle.flat_machine.specs.Requests.{same_session}
 use Rattle.flat_machine.specs.State.{Flat, Public, opening}
 use Rattle.flat_machine.specs.StoreHistory.{Holds, HoldsFrom, HoldsStep, Known, Layout, These}
 use Rattle.flat_machine.specs.Twins.{Alike, AlikeAfter, TwinSteps, Twins, TwinsFrom}

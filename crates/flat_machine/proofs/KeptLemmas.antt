@@ -1,7 +1,7 @@
 -- Each step of what is kept is the step of the state.
 use Rattle.flat_machine.proofs.TwinLemmas.{Drops, Keeps, KeepsEntry, keeps_begin, keeps_cancel, keeps_close, keeps_finish, keeps_if, keeps_loads, keeps_of_open, keeps_open, keeps_power, keeps_submit, keeps_tick, keeps_unlock}
 use Rattle.flat_machine.specs.Entries.{active_seen, after_value, digit_in, entered}
-use Rattle.flat_machine.specs.EntrySteps.{entry_over, press_in, press_seen}
+use Rattle.flat_machine.specs.EntrySteps.{after_entry, press_in, press_seen}
 use Rattle.flat_machine.specs.Kept.{KeptAfter, digits_of, kept_next, kept_of, kept_press_in, kept_said, kept_seen}
 use Rattle.flat_machine.specs.Machine.{next}
 use Rattle.flat_machine.specs.RequestSteps.{is_canceled, submit_refusal}
@@ -45,7 +45,7 @@ seen_kept : (set : Setting) (h : Flat) (w : Running) (key : Key) (seen : Seen) �
     → kept_after (press_seen set.cipher h w key seen) ≡ kept_seen set (kept_of h) w (entered w.entry (key ∷ h.presses)) seen
 seen_kept set h w key Ignored is = rw is refl
 seen_kept set h w key (Took s) is = rw is refl
-seen_kept set h w key (Ended s c) is = rw (digits_of-none (running (entry_over set.cipher h.public w s c (entered w.entry (key ∷ h.presses))))) refl
+seen_kept set h w key (Ended s c) is = rw (digits_of-none (running (after_entry set.cipher h.public w s c (entered w.entry (key ∷ h.presses))))) refl
 
 kept_if : (b : Bool) (x y : After) (u v : KeptAfter) → kept_after x ≡ u → kept_after y ≡ v → kept_after (cond b x y) ≡ cond b u v
 kept_if true x y u v e f = e
@@ -54,7 +54,7 @@ kept_if false x y u v e f = f
 press_kept : (set : Setting) (h : Flat) (w : Option Running) (key : Key) → running h.public ≡ w → kept_after (press_in set.cipher h w key) ≡ kept_press_in set (kept_of h) w key
 press_kept set h None key is = refl
 press_kept set h (Some w) key is =
-    let by_digits = λ (ds : List ℕ). if has_key w.entry.active key then kept_seen set (kept_of h) w (after_value w.entry (digit_in w.entry.sort key) key ds) (active_seen w.entry (length ds) key) else record { state = kept_of h; outs = [] } in
+    let by_digits = λ (ds : List ℕ). if has_key w.entry.active key then kept_seen set (kept_of h) w (after_value w.entry (digit_in w.entry.kind key) key ds) (active_seen w.entry (length ds) key) else record { state = kept_of h; outs = [] } in
     kept_if (has_key w.entry.active key) _ _ _ _ (seen_kept set h w key (active_seen w.entry (length (entered w.entry h.presses)) key) is) refl
     ∙ sym (ap by_digits (ap (λ (o : Option Running). digits_of o h.presses) is))
 

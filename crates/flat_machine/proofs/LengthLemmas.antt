@@ -1,5 +1,5 @@
 -- How many digits an entry has, and has when it ends.
-use Rattle.flat_machine.specs.Entries.{Entry, active_seen, after_other, after_value, digit_in, ended_seen, entered, shown_digit, value_seen}
+use Rattle.flat_machine.specs.Entries.{Entry, active_seen, after_other, after_value, digit_in, terminator_seen, entered, shown_digit, value_seen}
 use Rattle.flat_machine.specs.declared.types.Seen.TheVariants.{Ended, Ignored, Took}
 use Rattle.key_source.specs.Keys.{has_key}
 use Rattle.key_source.specs.declared.Key.{Key}
@@ -33,7 +33,7 @@ le_value e (Some v) k ds h = le_if_push (nat_lt (length ds) e.greatest) ds v e.g
 -- never more than the greatest length
 pub length-entered-le : (e : Entry) (ks : List Key) → length (entered e ks) ≤ e.greatest
 length-entered-le e [] = omega arith
-length-entered-le e (k ∷ ks) = le_value e (digit_in e.sort k) k (entered e ks) (length-entered-le e ks)
+length-entered-le e (k ∷ ks) = le_value e (digit_in e.kind k) k (entered e ks) (length-entered-le e ks)
 
 -- an entry that ends has no digits, or its least number of them
 abbrev pub Enough : Entry → List ℕ → Type 0
@@ -43,7 +43,7 @@ enough_by : (e : Entry) (b : Bool) (ds : List ℕ) (s t : Shown) (c d : Completi
 enough_by e true ds s t c d is h = cc
 enough_by e false ds s t c d is h = inr (ltb-false (length ds) e.least is)
 
-enough_other : (e : Entry) (k : Key) (ds : List ℕ) (s : Shown) (c : Completion) → ended_seen e (length ds) k ≡ Ended s c → Enough e (after_other k ds)
+enough_other : (e : Entry) (k : Key) (ds : List ℕ) (s : Shown) (c : Completion) → terminator_seen e (length ds) k ≡ Ended s c → Enough e (after_other k ds)
 enough_other e (keypad.Digit d) ds s c h = cc
 enough_other e (keypad.Hex v) ds s c h = cc
 enough_other e keypad.Enter ds s c h = enough_by e (nat_lt (length ds) e.least) ds s (shown.Plain keypad.Enter) c completion.Enter refl h
@@ -53,7 +53,7 @@ enough_other e keypad.Backspace ds s c h = cc
 enough_other e keypad.Help ds s c h = enough_by e (nat_lt (length ds) e.least) ds s (shown.Plain keypad.Help) c completion.Help refl h
 enough_other e (keypad.Fdk n) ds s c h = enough_by e (nat_lt (length ds) e.least) ds s (shown.Plain (keypad.Fdk n)) c (completion.Fdk n) refl h
 
-enough_none : (e : Entry) (b : Bool) (k : Key) (ds : List ℕ) (s : Shown) (c : Completion) → (if b then ended_seen e (length ds) k else Took (shown.Plain k)) ≡ Ended s c → Enough e (after_other k ds)
+enough_none : (e : Entry) (b : Bool) (k : Key) (ds : List ℕ) (s : Shown) (c : Completion) → (if b then terminator_seen e (length ds) k else Took (shown.Plain k)) ≡ Ended s c → Enough e (after_other k ds)
 enough_none e true k ds s c h = enough_other e k ds s c h
 enough_none e false k ds s c h = cc
 
@@ -72,7 +72,7 @@ enough_digit e false ds v s t c is le h = cc
 
 enough_value : (e : Entry) (o : Option ℕ) (k : Key) (ds : List ℕ) (s : Shown) (c : Completion) → e.least ≤ e.greatest → value_seen e o (length ds) k ≡ Ended s c → Enough e (after_value e o k ds)
 enough_value e None k ds s c le h = enough_none e (has_key e.terminate k) k ds s c h
-enough_value e (Some v) k ds s c le h = enough_digit e (nat_lt (length ds) e.greatest) ds v s (shown_digit e.sort k) c refl le h
+enough_value e (Some v) k ds s c le h = enough_digit e (nat_lt (length ds) e.greatest) ds v s (shown_digit e.kind k) c refl le h
 
 pub ended_enough : (e : Entry) (ks : List Key) (k : Key) (s : Shown) (c : Completion) → e.least ≤ e.greatest → active_seen e (length (entered e ks)) k ≡ Ended s c → Enough e (entered e (k ∷ ks))
-ended_enough e ks k s c le h = enough_value e (digit_in e.sort k) k (entered e ks) s c le h
+ended_enough e ks k s c le h = enough_value e (digit_in e.kind k) k (entered e ks) s c le h

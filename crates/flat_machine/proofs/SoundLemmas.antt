@@ -8,37 +8,38 @@ use Rattle.flat_machine.specs.KeyRows.{Change, KeyRows, change_to, changed}
 use Rattle.flat_machine.specs.Machine.{next}
 use Rattle.flat_machine.specs.Power.{loads, replaces}
 use Rattle.flat_machine.specs.RequestSteps.{command_refusal, is_canceled, is_due, or_locked, submit_by, submit_refusal}
-use Rattle.flat_machine.specs.Requests.{begun, eligible, ended_where, finished, may_begin, pending_count, pending_where, refused_at_begin, same, working}
-use Rattle.flat_machine.specs.declared.types.Asked.{Asked}
-use Rattle.flat_machine.specs.declared.types.Row.{Row}
-use Rattle.flat_machine.specs.declared.types.Row.TheVariants.{Gone, InWork, Waiting}
-use Rattle.flat_machine.specs.SessionSteps.{of_open}
+use Rattle.flat_machine.specs.Requests.{begun, eligible, ended_where, finished, may_begin, pending_count, pending_where, refused_at_begin, same_session, working}
+use Rattle.flat_machine.specs.SessionSteps.{if_open}
 use Rattle.flat_machine.specs.Sessions.{holder_of, holds, is_open, locked_out}
 use Rattle.flat_machine.specs.Sound.{Sound, SubmitsOk, allowed, pending_pass}
-use Rattle.flat_machine.specs.State.{After, Flat, Public, Running, Said, decided, device_refusal, is_off, opening, running, says}
+use Rattle.flat_machine.specs.State.{After, Flat, Public, Running, Said, decided, device_refusal, is_off, opening, ready_opening, running, says}
 use Rattle.flat_machine.specs.Works.{Readied, Setting, Works, pin_answer}
+use Rattle.flat_machine.specs.declared.types.Asked.{Asked}
 use Rattle.flat_machine.specs.declared.types.Device.{Device}
 use Rattle.flat_machine.specs.declared.types.Device.TheVariants.{Bad, Off, Ready, Stopped}
+use Rattle.flat_machine.specs.declared.types.Row.{Row}
+use Rattle.flat_machine.specs.declared.types.Row.TheVariants.{Gone, InWork, Waiting}
 use Rattle.flat_machine.specs.declared.types.Seen.{Seen}
 use Rattle.flat_machine.specs.declared.types.Seen.TheVariants.{Ended, Ignored, Took}
 use Rattle.key_source.specs.Keys.{has_key}
 use Rattle.key_source.specs.declared.Key.{Key}
-use Rattle.pad_steps.specs.declared.commands.Command.{Command}
-use Rattle.pad_steps.specs.declared.steps.DiskWord.{DiskWord}
-use Rattle.pad_steps.specs.declared.commands.PinRequest.{PinRequest}
 use Rattle.pad_steps.specs.declared.answers.Refusal.{Refusal}
 use Rattle.pad_steps.specs.declared.answers.Reply.{Reply}
+use Rattle.pad_steps.specs.declared.answers.Told.{Told}
+use Rattle.pad_steps.specs.declared.commands.Command.{Command}
+use Rattle.pad_steps.specs.declared.commands.PinRequest.{PinRequest}
+use Rattle.pad_steps.specs.declared.steps.DiskWord.{DiskWord}
 use Rattle.pad_steps.specs.declared.steps.Step.{Step}
 use Rattle.pad_words.specs.declared.numbers.Session.{Session}
 use Rattle.std.specs.Prelude.{Bool, IsTrue, List, None, Option, Some, [], cond, false, if◌then◌else◌, length, nat_le, not, refl, true, ℕ, ◌&&◌, ◌++◌, ◌+◌, ◌==◌, ◌∷◌, ◌≡◌}
-use Rattle.pad_steps.specs.declared.answers.Out.TheVariants as out
-use Rattle.pad_steps.specs.declared.answers.Told.TheVariants as told
-use Rattle.pad_steps.specs.declared.answers.Reply.TheVariants as reply
 use Rattle.pad_steps.specs.declared.answers.Answer.TheVariants as answer
+use Rattle.pad_steps.specs.declared.answers.Out.TheVariants as out
 use Rattle.pad_steps.specs.declared.answers.Refusal.TheVariants as refusal
+use Rattle.pad_steps.specs.declared.answers.Reply.TheVariants as reply
+use Rattle.pad_steps.specs.declared.answers.Told.TheVariants as told
 use Rattle.pad_steps.specs.declared.commands.Command.TheVariants as command
-use Rattle.pad_steps.specs.declared.steps.Step.TheVariants as step
 use Rattle.pad_steps.specs.declared.steps.DiskWord.TheVariants as word
+use Rattle.pad_steps.specs.declared.steps.Step.TheVariants as step
 
 and_left : (a b : Bool) → (a && b) ≡ true → a ≡ true
 and_left true b h = refl
@@ -117,7 +118,7 @@ module _ (ok : Command → Bool) (p : Public) (sound : Sound ok p) where
   sound_if true x y one other = one
   sound_if false x y one other = other
 
-  sound_open : (s : Session) (x : Said) → Sound ok x.public → Sound ok (of_open p s x).public
+  sound_open : (s : Session) (x : Said) → Sound ok x.public → Sound ok (if_open p s x).public
   sound_open s x h = sound_if (is_open s p.sessions) x (says p (out.Told s (told.No refusal.NoSession))) h sound
 
   sound_ended : (test : Asked Command → Bool) (r : Refusal) → IsTrue (pending_pass (allowed ok p.device) (ended_where test (reply.No r) p.requests))
@@ -225,7 +226,7 @@ press_if ok false x y one other = other
 sound_seen : (ok : Command → Bool) (set : Setting) (h : Flat) (w : Running) (k : Key) (seen : Seen) → Sound ok h.public → Sound ok (press_seen set.cipher h w k seen).state.public
 sound_seen ok set h w k Ignored sound = sound
 sound_seen ok set h w k (Took s) sound = sound
-sound_seen ok set h w k (Ended s c) sound = sound_finished ok h.public sound (reply.Ok (entry_answer set.cipher w.entry.sort w.entry.check c (entered w.entry (k ∷ h.presses))))
+sound_seen ok set h w k (Ended s c) sound = sound_finished ok h.public sound (reply.Ok (entry_answer set.cipher w.entry.kind w.entry.check c (entered w.entry (k ∷ h.presses))))
 
 sound_press : (ok : Command → Bool) (set : Setting) (h : Flat) (o : Option Running) (k : Key) → Sound ok h.public → Sound ok (press_in set.cipher h o k).state.public
 sound_press ok set h None k sound = sound
@@ -233,7 +234,7 @@ sound_press ok set h (Some w) k sound = press_if ok (has_key w.entry.active k) _
 
 pub next_sound : (ok : Command → Bool) (set : Setting) (h : Flat) (s : Step) (w : DiskWord) → SubmitsOk ok set.works s → Sound ok h.public → Sound ok (next set h s w).state.public
 next_sound ok set h (step.Open s) w good sound = sound_if ok h.public sound (is_open s h.public.sessions) _ _ sound sound
-next_sound ok set h (step.Close s) w good sound = sound_open ok h.public sound s _ (sound_ended ok h.public sound (λ a. same a.session s) refusal.Canceled)
+next_sound ok set h (step.Close s) w good sound = sound_open ok h.public sound s _ (sound_ended ok h.public sound (λ a. same_session a.session s) refusal.Canceled)
 next_sound ok set h (step.Listen s c) w good sound = sound_open ok h.public sound s _ sound
 next_sound ok set h (step.Lock s) w good sound = sound_open ok h.public sound s _ sound
 next_sound ok set h (step.Unlock s) w good sound = sound_open ok h.public sound s _ (sound_if ok h.public sound (holds s h.public.line) _ _ sound sound)
@@ -249,3 +250,6 @@ next_sound ok set h step.Boot w good sound = sound_if ok h.public sound (is_off 
 
 pub opening_sound : (ok : Command → Bool) → Sound ok opening.public
 opening_sound ok = refl
+
+pub ready_opening_sound : (ok : Command → Bool) → Sound ok ready_opening.public
+ready_opening_sound ok = refl

@@ -2,17 +2,17 @@
 use Rattle.flat_machine.specs.Decisions.{Decided, Goes, Stops}
 use Rattle.flat_machine.specs.Entries.{Entry, entry_of, entry_refusal}
 use Rattle.flat_machine.specs.EntrySteps.{begin_as, begin_entry, begin_with, first_of, next_begin}
-use Rattle.flat_machine.specs.FinishSteps.{crypt_now, delete_now, deletes, finish_by, finish_pin, finish_with, gives, import_now, imports, init_now, inits, maintain_now, maintains, pin_now, release_by, release_pin, release_with, reset_with}
+use Rattle.flat_machine.specs.FinishSteps.{crypt_now, delete_now, deletes, finish_by, finish_pin, finish_with, answers_pin, import_now, imports, init_now, inits, maintain_now, maintains, pin_now, release_by, release_pin, release_with, reset_with}
 use Rattle.flat_machine.specs.KeyRows.{Change, change_to, changed}
 use Rattle.flat_machine.specs.Power.{loads, powers_off, replaces}
 use Rattle.flat_machine.specs.RequestSteps.{cancels, is_canceled, is_due, next_tick, submit_by}
-use Rattle.flat_machine.specs.Requests.{eligible, ended_where, same, working}
+use Rattle.flat_machine.specs.Requests.{eligible, ended_where, same_session, working}
 use Rattle.flat_machine.specs.declared.types.Asked.{Asked}
 use Rattle.flat_machine.specs.declared.types.Row.{Row}
 use Rattle.flat_machine.specs.declared.types.Row.TheVariants.{Gone, InWork, Waiting}
-use Rattle.flat_machine.specs.SessionSteps.{next_close, next_open, next_unlock, of_open}
+use Rattle.flat_machine.specs.SessionSteps.{next_close, next_open, next_unlock, if_open}
 use Rattle.flat_machine.specs.Sessions.{grants_after, holder_of, holds, is_open, out_of_line, without_session}
-use Rattle.flat_machine.specs.State.{Public, Said, adding, decided, device_refusal, ends, forgetting, is_off, leading, running, running_in, says, work_ends}
+use Rattle.flat_machine.specs.State.{Public, Said, with_outs_after, decided, device_refusal, ends, dropping_pin, is_off, with_outs_before, running, running_in, says, work_ends}
 use Rattle.flat_machine.specs.Works.{Readied, Setting, pin_answer}
 use Rattle.flat_machine.specs.declared.types.Device.TheVariants.{Off}
 use Rattle.pad_steps.specs.declared.answers.Answer.{Answer}
@@ -41,15 +41,15 @@ pub keeps_if : (p : Public) (b : Bool) (x y : Said) → KeepsEntry p x → Keeps
 keeps_if p true x y one other = one
 keeps_if p false x y one other = other
 
-pub keeps_leading : (p : Public) (outs : List Out) (s : Said) → KeepsEntry p s → KeepsEntry p (leading outs s)
+pub keeps_leading : (p : Public) (outs : List Out) (s : Said) → KeepsEntry p s → KeepsEntry p (with_outs_before outs s)
 keeps_leading p outs s (Drops d) = Drops d
 keeps_leading p outs s (Keeps e) = Keeps e
 
-pub keeps_adding : (p : Public) (outs : List Out) (s : Said) → KeepsEntry p s → KeepsEntry p (adding outs s)
+pub keeps_adding : (p : Public) (outs : List Out) (s : Said) → KeepsEntry p s → KeepsEntry p (with_outs_after outs s)
 keeps_adding p outs s (Drops d) = Drops d
 keeps_adding p outs s (Keeps e) = Keeps e
 
-pub keeps_forgetting : (p : Public) (b : Bool) (s : Said) → KeepsEntry p s → KeepsEntry p (forgetting b s)
+pub keeps_forgetting : (p : Public) (b : Bool) (s : Said) → KeepsEntry p s → KeepsEntry p (dropping_pin b s)
 keeps_forgetting p b s (Drops d) = Drops d
 keeps_forgetting p b s (Keeps e) = Keeps e
 
@@ -90,7 +90,7 @@ keeps_ends p test r = keeps_ends_by p test r (work_ends test (working p.requests
 
 -- steps that digits do not reach
 
-pub keeps_of_open : (p : Public) (s : Session) (x : Said) → KeepsEntry p x → KeepsEntry p (of_open p s x)
+pub keeps_of_open : (p : Public) (s : Session) (x : Said) → KeepsEntry p x → KeepsEntry p (if_open p s x)
 keeps_of_open p s x k = keeps_if p (is_open s p.sessions) x (says p (out.Told s (told.No refusal.NoSession))) k (Keeps refl)
 
 pub keeps_open : (p : Public) (s : Session) → KeepsEntry p (next_open p s)
@@ -99,7 +99,7 @@ keeps_open p s = keeps_if p (is_open s p.sessions) _ _ (Keeps refl) (Keeps refl)
 pub keeps_close : (p : Public) (s : Session) → KeepsEntry p (next_close p s)
 keeps_close p s =
     let q : Public = record p { sessions = without_session s p.sessions; line = out_of_line s p.line } in
-    keeps_of_open p s _ (keeps_adding p (out.Told s told.Closed ∷ grants_after s p.line) _ (keeps_from p q _ refl (keeps_ends q (λ a. same a.session s) refusal.Canceled)))
+    keeps_of_open p s _ (keeps_adding p (out.Told s told.Closed ∷ grants_after s p.line) _ (keeps_from p q _ refl (keeps_ends q (λ a. same_session a.session s) refusal.Canceled)))
 
 pub keeps_unlock : (p : Public) (s : Session) → KeepsEntry p (next_unlock p s)
 keeps_unlock p s = keeps_of_open p s _ (keeps_if p (holds s p.line) _ _ (Keeps refl) (Keeps refl))
@@ -193,8 +193,8 @@ keeps_finish set p held (Some a) w = keeps_finish_by set p held a a.command w
 some_one : (x z : Answer) → Some x ≡ Some z → x ≡ z
 some_one x z e = cc
 
-same_gives : (p : Public) (a : Asked Command) (y : Readied) (x z : Answer) → Some z ≡ Some x → gives p a y z ≡ gives p a y x
-same_gives p a y x z e = ap (λ (v : Answer). gives p a y v) (some_one z x e)
+same_gives : (p : Public) (a : Asked Command) (y : Readied) (x z : Answer) → Some z ≡ Some x → answers_pin p a y z ≡ answers_pin p a y x
+same_gives p a y x z e = ap (λ (v : Answer). answers_pin p a y v) (some_one z x e)
 
 same_pin : (set : Setting) (p : Public) (hd gd : List ℕ) (a : Asked Command) (r : PinRequest) (d : Decided Readied) → release_pin set p gd r d ≡ release_pin set p hd r d → finish_pin set p gd a r d ≡ finish_pin set p hd a r d
 same_pin set p hd gd a r (Stops why accused) e = refl

@@ -1,17 +1,16 @@
 -- Twins, step by step, print alike.
 use Rattle.flat_machine.proofs.Unwinding.{alike_self, flat, masked_alike, masked_press, same_alike, same_shape}
-use Rattle.flat_machine.specs.Machine.{Act, lines_from, masked, next, release, releases_from, run, run_from, shown_step, status}
+use Rattle.flat_machine.specs.Machine.{Act, lines_from, masked, next, next_work, release, releases_from, run_from, shown_step, status}
 use Rattle.flat_machine.specs.Power.{word_fate}
-use Rattle.flat_machine.specs.Requests.{same}
-use Rattle.flat_machine.specs.State.{Flat, Public, opening, running}
+use Rattle.flat_machine.specs.State.{Flat, Public, running}
 use Rattle.flat_machine.specs.Twins.{Alike, AlikeAfter, AlikeEntries, TwinSteps, Twins, TwinsFrom}
 use Rattle.flat_machine.specs.Works.{Setting}
 use Rattle.key_source.specs.declared.Key.{Key}
 use Rattle.pad_steps.specs.Lines.{Line}
 use Rattle.pad_steps.specs.declared.answers.Answer.{Answer}
+use Rattle.pad_steps.specs.declared.answers.Out.{Out}
 use Rattle.pad_steps.specs.declared.steps.DiskWord.{DiskWord}
 use Rattle.pad_steps.specs.declared.steps.Fate.{Fate}
-use Rattle.pad_steps.specs.declared.answers.Out.{Out}
 use Rattle.pad_steps.specs.declared.steps.Step.{Step}
 use Rattle.std.proofs.Common.{ap, inl, inr, subst, sym, ◌∙◌}
 use Rattle.std.specs.Prelude.{List, None, Option, Some, [], is_some, length, option_to_list, refl, true, ℕ, ◌++◌, ◌∷◌, ◌≡◌}
@@ -109,3 +108,9 @@ twins_end_alike set start a b twins = twin_runs set start start a b (alike_self 
 
 pub alike_status : (h g : Flat) → Alike h g → status g ≡ status h
 alike_status h g alike = rw (alike.public, alike.held) refl
+
+pub alike_due : (h g : Flat) → Alike h g → next_work g.public ≡ next_work h.public
+alike_due h g alike = ap next_work alike.public
+
+pub alike_fate : (h g : Flat) (w : DiskWord) → Alike h g → word_fate g.public w ≡ word_fate h.public w
+alike_fate h g w alike = ap (λ (p : Public). word_fate p w) alike.public

@@ -3,11 +3,11 @@ use Rattle.flat_machine.proofs.EntryLemmas.{acts_alike, length-entered, plain_pr
 use Rattle.flat_machine.proofs.TwinLemmas.{Drops, Keeps, KeepsEntry, keeps_begin, keeps_cancel, keeps_close, keeps_finish, keeps_if, keeps_loads, keeps_of_open, keeps_open, keeps_power, keeps_submit, keeps_tick, keeps_unlock, same_finish, shape_with}
 use Rattle.flat_machine.specs.Ciphers.{Ciphers}
 use Rattle.flat_machine.specs.Entries.{Entry, active_seen, entered, is_key_part, is_pin}
-use Rattle.flat_machine.specs.EntrySteps.{ends_entry, entry_answer, entry_over, press_in, press_seen}
+use Rattle.flat_machine.specs.EntrySteps.{ends_entry, entry_answer, after_entry, press_in, press_seen}
 use Rattle.flat_machine.specs.Machine.{masked, next, release, secret_in}
 use Rattle.flat_machine.specs.RequestSteps.{is_canceled, next_ask, submit_refusal}
-use Rattle.flat_machine.specs.Requests.{finished, pending_where, same, working}
-use Rattle.flat_machine.specs.Sessions.{executes}
+use Rattle.flat_machine.specs.Requests.{finished, pending_where, same_session, working}
+use Rattle.flat_machine.specs.Sessions.{execute_event}
 use Rattle.flat_machine.specs.State.{After, Flat, Public, Running, Said, after_said, is_off, running}
 use Rattle.flat_machine.specs.Twins.{Alike, AlikeAfter, AlikeEntries, AlikeKeys, AlikePresses}
 use Rattle.flat_machine.specs.Works.{Setting}
@@ -92,17 +92,17 @@ module _ (set : Setting) (p : Public) (hp gp : List Key) (hd gd : List ℕ) (few
 
   -- presses
 
-  entry_over_alike : (w : Running) (a b : Key) (s : Shown) (c : Completion) (ds es : List ℕ) → length es ≡ length ds → (is_pin w.entry.sort ≡ false → es ≡ ds)
+  entry_over_alike : (w : Running) (a b : Key) (s : Shown) (c : Completion) (ds es : List ℕ) → length es ≡ length ds → (is_pin w.entry.kind ≡ false → es ≡ ds)
       → AlikeAfter (ends_entry set.cipher (flat p hp hd) w a s c ds) (ends_entry set.cipher (flat p gp gd) w b s c es)
   entry_over_alike w a b s c ds es same plain =
-      let x = entry_answer-alike set.cipher w.entry.sort w.entry.check c ds es same plain in
+      let x = entry_answer-alike set.cipher w.entry.kind w.entry.check c ds es same plain in
       record {
         state = record {
-          public = over-alike p _ _ _ _ x (part-alike w.entry.sort p.part ds es plain);
-          presses = alike_entry_self (running (entry_over set.cipher p w s c ds)) [];
-          held = length-cond (is_pin w.entry.sort) ds es hd gd same few;
+          public = over-alike p _ _ _ _ x (part-alike w.entry.kind p.part ds es plain);
+          presses = alike_entry_self (running (after_entry set.cipher p w s c ds)) [];
+          held = length-cond (is_pin w.entry.kind) ds es hd gd same few;
         };
-        outs = ap (λ (r : Answer). executes p.sessions w.session (event.Key s) ++ out.Ended w.session w.id (reply.Ok r) ∷ []) x;
+        outs = ap (λ (r : Answer). execute_event p.sessions w.session (event.Key s) ++ out.Ended w.session w.id (reply.Ok r) ∷ []) x;
       }
 
   press_sees : (w : Running) (a b : Key) (seen : Seen) → running p ≡ Some w → AlikePresses w.entry hp gp → AlikeKeys w.entry a b

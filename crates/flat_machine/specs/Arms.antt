@@ -1,63 +1,63 @@
--- What an armed strike makes of the words.
+-- What a strike that is armed at a device call makes of the words. For tests that cut the power or fail a call at a chosen place.
 use Rattle.flat_machine.specs.Power.{Loading, Nothing, Plan, Replacing, planned_calls}
 use Rattle.pad_steps.specs.declared.steps.DiskWord.{DiskWord}
 use Rattle.std.specs.Prelude.{Bool, IsTrue, None, Option, Some, false, not, true, ℕ, ◌-◌, ◌/◌, ◌<◌, ◌≡◌, ◌≤◌}
-use Rattle.pad_steps.specs.declared.steps.DiskWord.TheVariants as word
+use Rattle.pad_steps.specs.declared.steps.DiskWord.TheVariants as words
 
--- what strikes a device call
+-- what strikes a device call: a fault, or a power cut
 pub data Struck : Type 0 where
   Fails : Struck
   Cuts : Struck
 
--- what is armed: the number of the call from now, and what strikes it
+-- what is armed: the number of the call, 1 for the next one, and what strikes it
 abbrev pub Armed : Type 0
 Armed = Option (ℕ × Struck)
 
--- the most calls of a step that is struck, and the calls of one that is not, by its word
+-- the calls among which a step can be struck
 abbrev pub most_calls : Plan → ℕ
 most_calls calls = planned_calls calls
 
--- the calls of a step that is not struck, by its word
+-- the calls of a step that was not struck
 abbrev pub calls_made : Plan → DiskWord → ℕ
-calls_made calls w = planned_calls calls
+calls_made calls word = planned_calls calls
 
--- the slots that were wholly replaced before call c
+-- the slots that were wholly replaced before that call
 abbrev pub replaced_before : Plan → ℕ → ℕ
-replaced_before Nothing c = 0
-replaced_before Loading c = 0
-replaced_before (Replacing todo) c = (c - 1) / 4
+replaced_before Nothing call = 0
+replaced_before Loading call = 0
+replaced_before (Replacing todo) call = (call - 1) / 4
 
--- a word that is struck is as armed, and nothing is armed after
-pub record IsStruck (calls : Plan) (a : ℕ × Struck) (kind : Struck) (n : ℕ) (after : Armed) : Type 0 where
-  pub as_armed : a.1 ≡ kind
-  pub within : a.0 ≤ most_calls calls
-  pub slots : n ≡ replaced_before calls a.0
+-- the word of a step that was struck: it is as armed, the call lay within the step, the slots before it are counted, and nothing is armed after
+pub record IsStruck (calls : Plan) (armed : ℕ × Struck) (kind : Struck) (count : ℕ) (after : Armed) : Type 0 where
+  pub as_armed : armed.1 ≡ kind
+  pub within : armed.0 ≤ most_calls calls
+  pub slots : count ≡ replaced_before calls armed.0
   pub spent : after ≡ None
 
--- with another word the armed call lies beyond the step's, and comes nearer by them
-pub record IsSpared (calls : Plan) (a : ℕ × Struck) (w : DiskWord) (after : Armed) : Type 0 where
-  pub beyond : calls_made calls w < a.0
-  pub nearer : after ≡ Some (a.0 - calls_made calls w, a.1)
+-- the word of a step that was not struck: the armed call lies beyond its calls, and comes nearer by them
+pub record IsSpared (calls : Plan) (armed : ℕ × Struck) (word : DiskWord) (after : Armed) : Type 0 where
+  pub beyond : calls_made calls word < armed.0
+  pub nearer : after ≡ Some (armed.0 - calls_made calls word, armed.1)
 
--- what a word says of the armed call
+-- what is so of a step's word while a call is armed
 abbrev pub DueArmed : Plan → ℕ × Struck → DiskWord → Armed → Type 0
-DueArmed calls a word.Quiet after = IsSpared calls a word.Quiet after
-DueArmed calls a word.Done after = IsSpared calls a word.Done after
-DueArmed calls a (word.Failed n) after = IsStruck calls a Fails n after
-DueArmed calls a (word.Cut n) after = IsStruck calls a Cuts n after
-DueArmed calls a (word.Loaded rows) after = IsSpared calls a (word.Loaded rows) after
-DueArmed calls a (word.Bad slot) after = IsSpared calls a (word.Bad slot) after
+DueArmed calls armed words.Quiet after = IsSpared calls armed words.Quiet after
+DueArmed calls armed words.Done after = IsSpared calls armed words.Done after
+DueArmed calls armed (words.Failed count) after = IsStruck calls armed Fails count after
+DueArmed calls armed (words.Cut count) after = IsStruck calls armed Cuts count after
+DueArmed calls armed (words.Loaded rows) after = IsSpared calls armed (words.Loaded rows) after
+DueArmed calls armed (words.Bad slot) after = IsSpared calls armed (words.Bad slot) after
 
 -- a call of the step failed or was cut
 abbrev pub is_struck : DiskWord → Bool
-is_struck word.Quiet = false
-is_struck word.Done = false
-is_struck (word.Failed n) = true
-is_struck (word.Cut n) = true
-is_struck (word.Loaded rows) = false
-is_struck (word.Bad slot) = false
+is_struck words.Quiet = false
+is_struck words.Done = false
+is_struck (words.Failed count) = true
+is_struck (words.Cut count) = true
+is_struck (words.Loaded rows) = false
+is_struck (words.Bad slot) = false
 
--- what the word of a step with these calls may be, and what is armed after it
+-- what is so of a step's word, and of what is armed after it. With nothing armed no call fails or is cut
 abbrev pub Due : Plan → Armed → DiskWord → Armed → Type 0
-Due calls None w after = IsTrue (not (is_struck w)) × (after ≡ None)
-Due calls (Some a) w after = DueArmed calls a w after
+Due calls None word after = IsTrue (not (is_struck word)) × (after ≡ None)
+Due calls (Some armed) word after = DueArmed calls armed word after

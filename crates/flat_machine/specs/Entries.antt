@@ -1,4 +1,4 @@
--- What the presses of an entry amount to.
+-- What the presses of an entry amount to (GET_PIN, GET_DATA, SECUREKEY_ENTRY). The digits are a function of the list of all active keys pressed since the entry began; nothing else is remembered of it.
 use Rattle.flat_machine.specs.declared.types.Seen.{Seen}
 use Rattle.flat_machine.specs.declared.types.Seen.TheVariants.{Ended, Ignored, Took}
 use Rattle.key_source.specs.Keys.{has_key, is_empty_mask}
@@ -12,17 +12,17 @@ use Rattle.pad_steps.specs.declared.answers.Refusal.{Refusal}
 use Rattle.pad_steps.specs.declared.answers.Shown.{Shown}
 use Rattle.pad_steps.specs.declared.commands.Verify.{Verify}
 use Rattle.std.specs.Prelude.{Bool, List, None, Option, Some, [], false, if◌then◌else◌, is_some, length, nat_le, nat_lt, not, take, true, ℕ, ◌%◌, ◌&&◌, ◌++◌, ◌+◌, ◌-◌, ◌/◌, ◌==◌, ◌||◌, ◌∷◌}
-use Rattle.pad_steps.specs.declared.answers.Refusal.TheVariants as refusal
-use Rattle.pad_steps.specs.declared.answers.Completion.TheVariants as completion
+use Rattle.pad_steps.specs.declared.answers.Refusal.TheVariants as refusals
+use Rattle.pad_steps.specs.declared.answers.Completion.TheVariants as completions
 use Rattle.key_source.specs.declared.Key.TheVariants as keypad
-use Rattle.pad_steps.specs.declared.commands.Command.TheVariants as command
+use Rattle.pad_steps.specs.declared.commands.Command.TheVariants as commands
 use Rattle.pad_steps.specs.declared.commands.Verify.TheVariants as verify
 use Rattle.pad_steps.specs.declared.commands.EntryKind.TheVariants as entry_kind
-use Rattle.pad_steps.specs.declared.answers.Shown.TheVariants as shown
+use Rattle.pad_steps.specs.declared.answers.Shown.TheVariants as shows
 
--- a running entry: its kind, lengths, keys, and the check value that a key part answers
+-- the rules of a running entry: its kind, least and greatest number of digits, whether it ends by itself at the greatest, the active keys, the terminating keys, and the key check value that a key part answers
 pub record Entry : Type 0 where
-  pub sort : EntryKind
+  pub kind : EntryKind
   pub least : ℕ
   pub greatest : ℕ
   pub auto_end : Bool
@@ -31,26 +31,26 @@ pub record Entry : Type 0 where
   pub check : Verify
 
 -- a greatest length of 0 stands for 16
-abbrev pub greatest_of : ℕ → ℕ
-greatest_of n = if n == 0 then 16 else n
+abbrev pub greatest_length : ℕ → ℕ
+greatest_length most = if most == 0 then 16 else most
 
--- the entry of PIN or data rules
+-- the entry of the rules of a PIN or of data
 abbrev pub entry_by : EntryKind → EntryRules → Entry
-entry_by k rules = record { sort = k; least = rules.min; greatest = greatest_of rules.max; auto_end = rules.auto_end; active = rules.active; terminate = rules.terminate; check = verify.Nothing }
+entry_by kind rules = record { kind = kind; least = rules.min; greatest = greatest_length rules.max; auto_end = rules.auto_end; active = rules.active; terminate = rules.terminate; check = verify.Nothing }
 
--- the entry of an entry command
+-- the entry that a command asks for: GET_PIN, GET_DATA, and SECUREKEY_ENTRY, whose two lengths are its count; no other command is an entry
 abbrev pub entry_of : Command → Option Entry
-entry_of (command.GetPin rules) = Some (entry_by entry_kind.Pin rules)
-entry_of (command.GetData rules) = Some (entry_by entry_kind.Figures rules)
-entry_of (command.SecureKeyEntry p) = Some (record { sort = entry_kind.Part; least = p.count; greatest = p.count; auto_end = p.auto_end; active = p.active; terminate = p.terminate; check = p.verify })
-entry_of (command.MaintainPin on) = None
-entry_of (command.Pin r) = None
-entry_of (command.Crypt r) = None
-entry_of (command.ImportKey r) = None
-entry_of (command.DeleteKey name) = None
-entry_of command.Init = None
-entry_of command.Reset = None
-entry_of command.RsaImport = None
+entry_of (commands.GetPin rules) = Some (entry_by entry_kind.Pin rules)
+entry_of (commands.GetData rules) = Some (entry_by entry_kind.Figures rules)
+entry_of (commands.SecureKeyEntry rules) = Some (record { kind = entry_kind.Part; least = rules.count; greatest = rules.count; auto_end = rules.auto_end; active = rules.active; terminate = rules.terminate; check = rules.verify })
+entry_of (commands.MaintainPin on) = None
+entry_of (commands.Pin request) = None
+entry_of (commands.Crypt request) = None
+entry_of (commands.ImportKey request) = None
+entry_of (commands.DeleteKey name) = None
+entry_of commands.Init = None
+entry_of commands.Reset = None
+entry_of commands.RsaImport = None
 
 -- a PIN is entered
 abbrev pub is_pin : EntryKind → Bool
@@ -64,95 +64,95 @@ is_key_part entry_kind.Pin = false
 is_key_part entry_kind.Figures = false
 is_key_part entry_kind.Part = true
 
--- key bits 10 to 15 stand, which are A to F
+-- the mask has one of the key bits 10 to 15, the digits A to F
 abbrev pub has_hex_bits : Mask → Bool
-has_hex_bits m = not ((m.keys / 1024) % 64 == 0)
+has_hex_bits mask = not ((mask.keys / 1024) % 64 == 0)
 
--- key bits other than ENTER, CANCEL and HELP stand
-abbrev pub has_odd_ends : Mask → Bool
-has_odd_ends m = not (m.keys % 65536 == 0) || not ((m.keys / 262144) % 4 == 0) || not (m.keys / 2097152 == 0)
+-- the mask has a key bit other than 16 ENTER, 17 CANCEL and 20 HELP
+abbrev pub has_unsupported_terminators : Mask → Bool
+has_unsupported_terminators mask = not (mask.keys % 65536 == 0) || not ((mask.keys / 262144) % 4 == 0) || not (mask.keys / 2097152 == 0)
 
--- a mask has a key that this entry cannot have
-abbrev pub unsupported : Entry → Bool
-unsupported e = nat_le 2097152 e.active.keys || nat_le 2097152 e.terminate.keys
-    || (not (is_key_part e.sort) && (has_hex_bits e.active || has_hex_bits e.terminate)) || has_odd_ends e.terminate
+-- a mask has a key bit above 20, or the digits A to F outside a key part, or the terminating mask a key that cannot terminate
+abbrev pub has_unsupported_keys : Entry → Bool
+has_unsupported_keys entry = nat_le 2097152 entry.active.keys || nat_le 2097152 entry.terminate.keys
+    || (not (is_key_part entry.kind) && (has_hex_bits entry.active || has_hex_bits entry.terminate)) || has_unsupported_terminators entry.terminate
 
--- why an entry is refused, in order
+-- why an entry is refused as it begins, in this order: MINIMUMLENGTH where the least length exceeds the greatest; NOACTIVEKEYS where no key is active; KEYNOTSUPPORTED
 abbrev pub entry_refusal : Entry → Option Refusal
-entry_refusal e = if nat_lt e.greatest e.least then Some refusal.MinimumLength
-    else (if is_empty_mask e.active then Some refusal.NoActiveKeys
-    else (if unsupported e then Some refusal.KeyNotSupported else None))
+entry_refusal entry = if nat_lt entry.greatest entry.least then Some refusals.MinimumLength
+    else (if is_empty_mask entry.active then Some refusals.NoActiveKeys
+    else (if has_unsupported_keys entry then Some refusals.KeyNotSupported else None))
 
--- the value of a key that is a digit of this kind of entry
+-- the value of a key that is a digit in this kind of entry; A to F are digits of a key part alone
 abbrev pub digit_in : EntryKind → Key → Option ℕ
-digit_in k (keypad.Digit d) = Some d.value
-digit_in k (keypad.Hex v) = if is_key_part k then Some v else None
-digit_in k keypad.Enter = None
-digit_in k keypad.Cancel = None
-digit_in k keypad.Clear = None
-digit_in k keypad.Backspace = None
-digit_in k keypad.Help = None
-digit_in k (keypad.Fdk n) = None
+digit_in kind (keypad.Digit digit) = Some digit.value
+digit_in kind (keypad.Hex value) = if is_key_part kind then Some value else None
+digit_in kind keypad.Enter = None
+digit_in kind keypad.Cancel = None
+digit_in kind keypad.Clear = None
+digit_in kind keypad.Backspace = None
+digit_in kind keypad.Help = None
+digit_in kind (keypad.Fdk number) = None
 
--- what a key that is no digit leaves of the digits
+-- what a key that is no digit leaves of the digits: BACKSPACE drops the last, CLEAR and CANCEL drop all, others leave them
 abbrev pub after_other : Key → List ℕ → List ℕ
-after_other (keypad.Digit d) digits = digits
-after_other (keypad.Hex v) digits = digits
+after_other (keypad.Digit digit) digits = digits
+after_other (keypad.Hex value) digits = digits
 after_other keypad.Enter digits = digits
 after_other keypad.Cancel digits = []
 after_other keypad.Clear digits = []
 after_other keypad.Backspace digits = take (length digits - 1) digits
 after_other keypad.Help digits = digits
-after_other (keypad.Fdk n) digits = digits
+after_other (keypad.Fdk number) digits = digits
 
 -- a digit is put at the end below the greatest length, and dropped at it
 abbrev pub after_digit : Entry → List ℕ → ℕ → List ℕ
-after_digit e digits v = if nat_lt (length digits) e.greatest then digits ++ v ∷ [] else digits
+after_digit entry digits digit = if nat_lt (length digits) entry.greatest then digits ++ digit ∷ [] else digits
 
 -- the digits after a key that is this digit, or none
 abbrev pub after_value : Entry → Option ℕ → Key → List ℕ → List ℕ
-after_value e None k digits = after_other k digits
-after_value e (Some v) k digits = after_digit e digits v
+after_value entry None key digits = after_other key digits
+after_value entry (Some digit) key digits = after_digit entry digits digit
 
--- the digits of an entry; the latest press stands first
+-- the digits of an entry, from all active keys pressed since it began; the latest stands first
 abbrev pub entered : Entry → List Key → List ℕ
-entered e [] = []
-entered e (k ∷ earlier) = after_value e (digit_in e.sort k) k (entered e earlier)
+entered entry [] = []
+entered entry (key ∷ earlier) = after_value entry (digit_in entry.kind key) key (entered entry earlier)
 
--- how a terminating key ends an entry of this many digits
+-- a terminating key ends the entry with this completion, and does nothing below the least length
 abbrev pub ends_by : Entry → ℕ → Key → Completion → Seen
-ends_by e count k c = if nat_lt count e.least then Ignored else Ended (shown.Plain k) c
+ends_by entry count key completion = if nat_lt count entry.least then Ignored else Ended (shows.Plain key) completion
 
--- what a terminating key does
-abbrev pub ended_seen : Entry → ℕ → Key → Seen
-ended_seen e count keypad.Enter = ends_by e count keypad.Enter completion.Enter
-ended_seen e count keypad.Cancel = Ended (shown.Plain keypad.Cancel) completion.Cancel
-ended_seen e count keypad.Help = ends_by e count keypad.Help completion.Help
-ended_seen e count (keypad.Fdk n) = ends_by e count (keypad.Fdk n) (completion.Fdk n)
-ended_seen e count (keypad.Digit d) = Took (shown.Plain (keypad.Digit d))
-ended_seen e count (keypad.Hex v) = Took (shown.Plain (keypad.Hex v))
-ended_seen e count keypad.Clear = Took (shown.Plain keypad.Clear)
-ended_seen e count keypad.Backspace = Took (shown.Plain keypad.Backspace)
+-- what a terminating key does: CANCEL ends the entry at any length, ENTER, HELP and a function descriptor key from the least length on; no other key can terminate
+abbrev pub terminator_seen : Entry → ℕ → Key → Seen
+terminator_seen entry count keypad.Enter = ends_by entry count keypad.Enter completions.Enter
+terminator_seen entry count keypad.Cancel = Ended (shows.Plain keypad.Cancel) completions.Cancel
+terminator_seen entry count keypad.Help = ends_by entry count keypad.Help completions.Help
+terminator_seen entry count (keypad.Fdk number) = ends_by entry count (keypad.Fdk number) (completions.Fdk number)
+terminator_seen entry count (keypad.Digit digit) = Took (shows.Plain (keypad.Digit digit))
+terminator_seen entry count (keypad.Hex value) = Took (shows.Plain (keypad.Hex value))
+terminator_seen entry count keypad.Clear = Took (shows.Plain keypad.Clear)
+terminator_seen entry count keypad.Backspace = Took (shows.Plain keypad.Backspace)
 
--- digits are shown in data entries alone
+-- a digit is shown in a data entry, and masked in a PIN and in a key part
 abbrev pub shown_digit : EntryKind → Key → Shown
-shown_digit entry_kind.Pin k = shown.Masked
-shown_digit entry_kind.Figures k = shown.Plain k
-shown_digit entry_kind.Part k = shown.Masked
+shown_digit entry_kind.Pin key = shows.Masked
+shown_digit entry_kind.Figures key = shows.Plain key
+shown_digit entry_kind.Part key = shows.Masked
 
--- what a digit does: it is taken, ends the entry, or is dropped
+-- a digit is dropped at the greatest length; below it, it is taken, and ends an entry that ends by itself where it is the last
 abbrev pub digit_seen : Entry → ℕ → Shown → Seen
-digit_seen e count s = if nat_lt count e.greatest then (if e.auto_end && (count + 1 == e.greatest) then Ended s completion.Auto else Took s) else Ignored
+digit_seen entry count shown = if nat_lt count entry.greatest then (if entry.auto_end && (count + 1 == entry.greatest) then Ended shown completions.Auto else Took shown) else Ignored
 
--- what a key does that is a digit, or none
+-- what a key does that is this digit, or none; a key that is active and no more is taken
 abbrev pub value_seen : Entry → Option ℕ → ℕ → Key → Seen
-value_seen e None count k = if has_key e.terminate k then ended_seen e count k else Took (shown.Plain k)
-value_seen e (Some v) count k = digit_seen e count (shown_digit e.sort k)
+value_seen entry None count key = if has_key entry.terminate key then terminator_seen entry count key else Took (shows.Plain key)
+value_seen entry (Some digit) count key = digit_seen entry count (shown_digit entry.kind key)
 
--- what an active key does at this many digits. Of a PIN nothing here depends on a digit
+-- what an active key does at this many digits. In a PIN the answer depends on no digit
 abbrev pub active_seen : Entry → ℕ → Key → Seen
-active_seen e count k = value_seen e (digit_in e.sort k) count k
+active_seen entry count key = value_seen entry (digit_in entry.kind key) count key
 
--- an active digit of a PIN
+-- the key is an active digit of a PIN
 abbrev pub is_secret : Entry → Key → Bool
-is_secret e k = is_pin e.sort && is_some (digit_in e.sort k) && has_key e.active k
+is_secret entry key = is_pin entry.kind && is_some (digit_in entry.kind key) && has_key entry.active key

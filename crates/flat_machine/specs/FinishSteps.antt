@@ -1,4 +1,4 @@
--- Finish, of each command.
+-- Finish, of each command. Each command that is no entry is a decision first: the reply, the device calls and the released value all follow from that one decision.
 use Rattle.flat_machine.specs.Ciphers.{Ciphers, check_value}
 use Rattle.flat_machine.specs.Crypts.{decide_crypt}
 use Rattle.flat_machine.specs.Decisions.{Decided, Goes, Stops}
@@ -7,8 +7,8 @@ use Rattle.flat_machine.specs.KeyRows.{Change, change_to, erasures, find_key}
 use Rattle.flat_machine.specs.Power.{Loading, Nothing, Plan, Replacing, loads, replaces}
 use Rattle.flat_machine.specs.Requests.{working}
 use Rattle.flat_machine.specs.declared.types.Asked.{Asked}
-use Rattle.flat_machine.specs.Sessions.{serves}
-use Rattle.flat_machine.specs.State.{Public, Said, adding, decided, device_refusal, forgetting, on_device, refuses, replies, still}
+use Rattle.flat_machine.specs.Sessions.{service_events}
+use Rattle.flat_machine.specs.State.{Public, Said, with_outs_after, decided, device_refusal, dropping_pin, on_device, refuses, replies, unchanged}
 use Rattle.flat_machine.specs.Works.{Readied, Setting, Works, decide_pin, pin_answer}
 use Rattle.flat_machine.specs.declared.types.Device.{Device}
 use Rattle.flat_machine.specs.declared.types.Device.TheVariants.{Bad, Off, Ready, Stopped}
@@ -21,165 +21,165 @@ use Rattle.pad_steps.specs.declared.commands.ImportRequest.{ImportRequest}
 use Rattle.pad_steps.specs.declared.commands.PinRequest.{PinRequest}
 use Rattle.pad_steps.specs.declared.answers.Reply.{Reply}
 use Rattle.std.specs.Prelude.{Bool, List, None, Option, Some, [], false, if◌then◌else◌, length, not, true, ℕ, ◌+◌, ◌∷◌}
-use Rattle.pad_steps.specs.declared.answers.Reply.TheVariants as reply
-use Rattle.pad_steps.specs.declared.answers.Event.TheVariants as event
-use Rattle.pad_steps.specs.declared.answers.Answer.TheVariants as answer
-use Rattle.pad_steps.specs.declared.answers.Refusal.TheVariants as refusal
-use Rattle.pad_steps.specs.declared.commands.Command.TheVariants as command
-use Rattle.pad_steps.specs.declared.steps.DiskWord.TheVariants as word
+use Rattle.pad_steps.specs.declared.answers.Reply.TheVariants as replied
+use Rattle.pad_steps.specs.declared.answers.Event.TheVariants as events
+use Rattle.pad_steps.specs.declared.answers.Answer.TheVariants as answers
+use Rattle.pad_steps.specs.declared.answers.Refusal.TheVariants as refusals
+use Rattle.pad_steps.specs.declared.commands.Command.TheVariants as commands
+use Rattle.pad_steps.specs.declared.steps.DiskWord.TheVariants as words
 
--- the reply of a Reset, by the device after it
+-- the reply of RESET, by the device after it
 abbrev pub device_reply : Device → Reply
-device_reply Off = reply.Ok answer.Done
-device_reply Ready = reply.Ok answer.Done
-device_reply Stopped = reply.No refusal.HardwareError
-device_reply (Bad n) = reply.No (refusal.BadStore n)
+device_reply Off = replied.Ok answers.Done
+device_reply Ready = replied.Ok answers.Done
+device_reply Stopped = replied.No refusals.HardwareError
+device_reply (Bad slot) = replied.No (refusals.BadStore slot)
 
--- Reset clears PIN, part buffer and maintain, whatever its word, and loads
+-- RESET loads the store and is answered by the device after its word; a cut answers as any cut
 abbrev pub reset_with : Public → Asked Command → DiskWord → Said
-reset_with p a (word.Cut n) = loads p (word.Cut n)
-reset_with p a word.Quiet = replies p a (device_reply p.device)
-reset_with p a word.Done = replies p a (device_reply p.device)
-reset_with p a (word.Failed n) = replies (loads p (word.Failed n)).public a (device_reply (loads p (word.Failed n)).public.device)
-reset_with p a (word.Loaded rows) = replies (loads p (word.Loaded rows)).public a (device_reply (loads p (word.Loaded rows)).public.device)
-reset_with p a (word.Bad slot) = replies (loads p (word.Bad slot)).public a (device_reply (loads p (word.Bad slot)).public.device)
+reset_with public request (words.Cut count) = loads public (words.Cut count)
+reset_with public request words.Quiet = replies public request (device_reply public.device)
+reset_with public request words.Done = replies public request (device_reply public.device)
+reset_with public request (words.Failed count) = replies (loads public (words.Failed count)).public request (device_reply (loads public (words.Failed count)).public.device)
+reset_with public request (words.Loaded rows) = replies (loads public (words.Loaded rows)).public request (device_reply (loads public (words.Loaded rows)).public.device)
+reset_with public request (words.Bad slot) = replies (loads public (words.Bad slot)).public request (device_reply (loads public (words.Bad slot)).public.device)
 
--- Finish of Reset
+-- RESET: whatever its word, the held PIN and the part buffer are cleared and maintain is off
 abbrev pub resets : Public → Asked Command → DiskWord → Said
-resets p a w = forgetting true (reset_with (record p { part = []; maintain = false }) a w)
+resets public request word = dropping_pin true (reset_with (record public { part = []; maintain = false }) request word)
 
--- Finish of MaintainPin
+-- MAINTAIN_PIN: sets the flag; off clears the held PIN
 abbrev pub maintains : Public → Asked Command → Bool → Said
-maintains p a on = forgetting (not on) (replies (record p { maintain = on }) a (reply.Ok answer.Done))
+maintains public request on = dropping_pin (not on) (replies (record public { maintain = on }) request (replied.Ok answers.Done))
 
--- an import from the part buffer empties it
+-- IMPORT_KEY, done: answered by the new value's check value; an import from the part buffer empties it
 abbrev pub imports : Ciphers → Asked Command → ImportRequest → KeyRow → Public → Said
-imports cipher a r row p = replies (record p { part = if is_part r.source then [] else p.part }) a (reply.Ok (answer.Key (check_value cipher r.verify row.value)))
+imports cipher request importing row public = replies (record public { part = if is_part importing.source then [] else public.part }) request (replied.Ok (answers.Key (check_value cipher importing.verify row.value)))
 
--- what an Init does after its slots are empty
+-- INITIALIZATION, done: the held PIN and the part buffer are cleared, and INITIALIZED is sent after the reply; maintain stays
 abbrev pub inits : Asked Command → Public → Said
-inits a p = forgetting true (adding (serves p.sessions event.Initialized) (replies (record p { part = [] }) a (reply.Ok answer.Done)))
+inits request public = dropping_pin true (with_outs_after (service_events public.sessions events.Initialized) (replies (record public { part = [] }) request (replied.Ok answers.Done)))
 
--- what a DeleteKey does after its slot is empty
+-- a deletion, done
 abbrev pub deletes : Asked Command → Public → Said
-deletes a p = replies p a (reply.Ok answer.Done)
+deletes request public = replies public request (replied.Ok answers.Done)
 
--- a key that is absent is not found, without an event
+-- the slot of the name is emptied; KEYNOTFOUND, which accuses no key here, where it is absent
 abbrev pub deletion : Option (ℕ × KeyRow) → Decided Change
-deletion None = Stops refusal.KeyNotFound None
-deletion (Some p) = Goes (record { slot = p.0; row = None })
+deletion None = Stops refusals.KeyNotFound None
+deletion (Some found) = Goes (record { slot = found.0; row = None })
 
--- what each command that uses the device comes to, now
+-- what IMPORT_KEY comes to now
 abbrev pub import_now : Ciphers → Public → ImportRequest → Decided (ℕ × KeyRow)
-import_now cipher p r = on_device (device_refusal p.device) (decide_import cipher p.keys p.part r)
+import_now cipher public request = on_device (device_refusal public.device) (decide_import cipher public.keys public.part request)
 
--- a DeleteKey empties a slot
+-- what a deletion comes to now
 abbrev pub delete_now : Public → List ℕ → Decided Change
-delete_now p name = on_device (device_refusal p.device) (deletion (find_key name p.keys))
+delete_now public name = on_device (device_refusal public.device) (deletion (find_key name public.keys))
 
--- an Init empties all occupied slots
+-- what INITIALIZATION comes to now: every occupied slot is emptied
 abbrev pub init_now : Public → Decided (List Change)
-init_now p = on_device (device_refusal p.device) (Goes (erasures p.keys))
+init_now public = on_device (device_refusal public.device) (Goes (erasures public.keys))
 
--- a Crypt gives an answer
+-- what CRYPT comes to now
 abbrev pub crypt_now : Ciphers → Public → CryptRequest → Decided Answer
-crypt_now cipher p r = on_device (device_refusal p.device) (decide_crypt cipher p.keys r)
+crypt_now cipher public request = on_device (device_refusal public.device) (decide_crypt cipher public.keys request)
 
--- a MaintainPin sets the flag
+-- what MAINTAIN_PIN comes to now
 abbrev pub maintain_now : Public → Bool → Decided Bool
-maintain_now p on = on_device (device_refusal p.device) (Goes on)
+maintain_now public on = on_device (device_refusal public.device) (Goes on)
 
--- a PIN command is refused, or ready, by the number of digits that are held
+-- what a PIN command comes to now, by the number of digits held and by no digit
 abbrev pub pin_now : Works → Public → ℕ → PinRequest → Decided Readied
-pin_now works p count r = on_device (device_refusal p.device) (decide_pin works p.keys count r)
+pin_now works public count request = on_device (device_refusal public.device) (decide_pin works public.keys count request)
 
--- a PIN command that gives this answer draws its fill words, and the PIN goes unless it is maintained
-abbrev pub gives : Public → Asked Command → Readied → Answer → Said
-gives p a y x = forgetting (not p.maintain) (replies (record p { drawn = p.drawn + y.draws }) a (reply.Ok x))
+-- a PIN command that answers has drawn its fill words, and the held PIN is dropped unless it is maintained
+abbrev pub answers_pin : Public → Asked Command → Readied → Answer → Said
+answers_pin public request ready answer = dropping_pin (not public.maintain) (replies (record public { drawn = public.drawn + ready.draws }) request (replied.Ok answer))
 
 module _ (set : Setting) where
-  -- Finish of a PIN command: refused, or given from the held digits
+  -- a PIN command: refused, in which case the held PIN stays, or answered from the held digits
   abbrev pub finish_pin : Public → List ℕ → Asked Command → PinRequest → Decided Readied → Said
-  finish_pin p held a r (Stops why accused) = refuses p a why accused
-  finish_pin p held a r (Goes y) = gives p a y (pin_answer set p.drawn r held y)
+  finish_pin public held request wanted (Stops refusal accused) = refuses public request refusal accused
+  finish_pin public held request wanted (Goes ready) = answers_pin public request ready (pin_answer set public.drawn wanted held ready)
 
-  -- what digits have to do with a Finish is their number, and the answer of a PIN command
+  -- Finish of each command. An entry is not finished here. The RSA import is refused as it is submitted, and would be here
   abbrev pub finish_by : Public → List ℕ → Asked Command → Command → DiskWord → Said
-  finish_by p held a (command.GetPin rules) w = still p
-  finish_by p held a (command.GetData rules) w = still p
-  finish_by p held a (command.SecureKeyEntry rules) w = still p
-  finish_by p held a (command.MaintainPin on) w = decided p a (maintain_now p on) (maintains p a)
-  finish_by p held a (command.Pin r) w = finish_pin p held a r (pin_now set.works p (length held) r)
-  finish_by p held a (command.Crypt r) w = decided p a (crypt_now set.cipher p r) (λ x. replies p a (reply.Ok x))
-  finish_by p held a (command.ImportKey r) w = decided p a (import_now set.cipher p r) (λ new. replaces p a (change_to new ∷ []) (imports set.cipher a r new.1) w)
-  finish_by p held a (command.DeleteKey name) w = decided p a (delete_now p name) (λ c. replaces p a (c ∷ []) (deletes a) w)
-  finish_by p held a command.Init w = decided p a (init_now p) (λ todo. replaces p a todo (inits a) w)
-  finish_by p held a command.Reset w = resets p a w
-  finish_by p held a command.RsaImport w = replies p a (reply.No refusal.UnsuppCommand)
+  finish_by public held request (commands.GetPin rules) word = unchanged public
+  finish_by public held request (commands.GetData rules) word = unchanged public
+  finish_by public held request (commands.SecureKeyEntry rules) word = unchanged public
+  finish_by public held request (commands.MaintainPin on) word = decided public request (maintain_now public on) (maintains public request)
+  finish_by public held request (commands.Pin wanted) word = finish_pin public held request wanted (pin_now set.works public (length held) wanted)
+  finish_by public held request (commands.Crypt wanted) word = decided public request (crypt_now set.cipher public wanted) (λ answer. replies public request (replied.Ok answer))
+  finish_by public held request (commands.ImportKey wanted) word = decided public request (import_now set.cipher public wanted) (λ new. replaces public request (change_to new ∷ []) (imports set.cipher request wanted new.1) word)
+  finish_by public held request (commands.DeleteKey name) word = decided public request (delete_now public name) (λ change. replaces public request (change ∷ []) (deletes request) word)
+  finish_by public held request commands.Init word = decided public request (init_now public) (λ todo. replaces public request todo (inits request) word)
+  finish_by public held request commands.Reset word = resets public request word
+  finish_by public held request commands.RsaImport word = replies public request (replied.No refusals.UnsuppCommand)
 
-  -- Finish of the request in work, if one is
+  -- nothing happens where no request is in work
   abbrev pub finish_with : Public → List ℕ → Option (Asked Command) → DiskWord → Said
-  finish_with p held None w = still p
-  finish_with p held (Some a) w = finish_by p held a a.command w
+  finish_with public held None word = unchanged public
+  finish_with public held (Some request) word = finish_by public held request request.command word
 
-  -- Finish
+  -- Finish: the digits are used for their number and for the answer of a PIN command
   abbrev pub next_finish : Public → List ℕ → DiskWord → Said
-  next_finish p held w = finish_with p held (working p.requests) w
+  next_finish public held word = finish_with public held (working public.requests) word
 
-  -- the value that a Finish releases
+  -- a PIN command that is not refused releases its answer
   abbrev pub release_pin : Public → List ℕ → PinRequest → Decided Readied → Option Answer
-  release_pin p held r (Stops why accused) = None
-  release_pin p held r (Goes y) = Some (pin_answer set p.drawn r held y)
+  release_pin public held wanted (Stops refusal accused) = None
+  release_pin public held wanted (Goes ready) = Some (pin_answer set public.drawn wanted held ready)
 
-  -- the value that a command releases
+  -- the value that a command releases: PIN commands alone release one
   abbrev pub release_by : Public → List ℕ → Command → Option Answer
-  release_by p held (command.GetPin rules) = None
-  release_by p held (command.GetData rules) = None
-  release_by p held (command.SecureKeyEntry rules) = None
-  release_by p held (command.MaintainPin on) = None
-  release_by p held (command.Pin r) = release_pin p held r (pin_now set.works p (length held) r)
-  release_by p held (command.Crypt r) = None
-  release_by p held (command.ImportKey r) = None
-  release_by p held (command.DeleteKey name) = None
-  release_by p held command.Init = None
-  release_by p held command.Reset = None
-  release_by p held command.RsaImport = None
+  release_by public held (commands.GetPin rules) = None
+  release_by public held (commands.GetData rules) = None
+  release_by public held (commands.SecureKeyEntry rules) = None
+  release_by public held (commands.MaintainPin on) = None
+  release_by public held (commands.Pin wanted) = release_pin public held wanted (pin_now set.works public (length held) wanted)
+  release_by public held (commands.Crypt wanted) = None
+  release_by public held (commands.ImportKey wanted) = None
+  release_by public held (commands.DeleteKey name) = None
+  release_by public held commands.Init = None
+  release_by public held commands.Reset = None
+  release_by public held commands.RsaImport = None
 
   -- the value that the request in work releases
   abbrev pub release_with : Public → List ℕ → Option (Asked Command) → Option Answer
-  release_with p held None = None
-  release_with p held (Some a) = release_by p held a.command
+  release_with public held None = None
+  release_with public held (Some request) = release_by public held request.command
 
-  -- the device calls of a Finish
+  -- an import replaces one slot
   abbrev pub plan_import : Decided (ℕ × KeyRow) → Plan
-  plan_import (Stops r accused) = Nothing
+  plan_import (Stops refusal accused) = Nothing
   plan_import (Goes new) = Replacing (change_to new ∷ [])
 
-  -- the device calls of a DeleteKey
+  -- a deletion replaces one slot
   abbrev pub plan_delete : Decided Change → Plan
-  plan_delete (Stops r accused) = Nothing
-  plan_delete (Goes c) = Replacing (c ∷ [])
+  plan_delete (Stops refusal accused) = Nothing
+  plan_delete (Goes change) = Replacing (change ∷ [])
 
-  -- the device calls of an Init
+  -- INITIALIZATION replaces every occupied slot
   abbrev pub plan_init : Decided (List Change) → Plan
-  plan_init (Stops r accused) = Nothing
+  plan_init (Stops refusal accused) = Nothing
   plan_init (Goes todo) = Replacing todo
 
   -- the device calls of a command
   abbrev pub plan_by : Public → Command → Plan
-  plan_by p (command.GetPin rules) = Nothing
-  plan_by p (command.GetData rules) = Nothing
-  plan_by p (command.SecureKeyEntry rules) = Nothing
-  plan_by p (command.MaintainPin on) = Nothing
-  plan_by p (command.Pin r) = Nothing
-  plan_by p (command.Crypt r) = Nothing
-  plan_by p (command.ImportKey r) = plan_import (import_now set.cipher p r)
-  plan_by p (command.DeleteKey name) = plan_delete (delete_now p name)
-  plan_by p command.Init = plan_init (init_now p)
-  plan_by p command.Reset = Loading
-  plan_by p command.RsaImport = Nothing
+  plan_by public (commands.GetPin rules) = Nothing
+  plan_by public (commands.GetData rules) = Nothing
+  plan_by public (commands.SecureKeyEntry rules) = Nothing
+  plan_by public (commands.MaintainPin on) = Nothing
+  plan_by public (commands.Pin wanted) = Nothing
+  plan_by public (commands.Crypt wanted) = Nothing
+  plan_by public (commands.ImportKey wanted) = plan_import (import_now set.cipher public wanted)
+  plan_by public (commands.DeleteKey name) = plan_delete (delete_now public name)
+  plan_by public commands.Init = plan_init (init_now public)
+  plan_by public commands.Reset = Loading
+  plan_by public commands.RsaImport = Nothing
 
   -- the device calls of the request in work
   abbrev pub plan_finish : Public → Option (Asked Command) → Plan
-  plan_finish p None = Nothing
-  plan_finish p (Some a) = plan_by p a.command
+  plan_finish public None = Nothing
+  plan_finish public (Some request) = plan_by public request.command

@@ -1,4 +1,4 @@
--- Histories: steps with what came of them.
+-- Histories: steps with what came of each. A history is legal where the machine, step by step, gives just these outcomes.
 use Rattle.flat_machine.specs.Machine.{Act, fits, masked, next}
 use Rattle.flat_machine.specs.Power.{word_fate}
 use Rattle.flat_machine.specs.State.{Flat, opening}
@@ -9,7 +9,7 @@ use Rattle.pad_steps.specs.declared.answers.Out.{Out}
 use Rattle.pad_steps.specs.declared.steps.Step.{Step}
 use Rattle.std.specs.Prelude.{Bool, IsTrue, List, Option, [], ◌∷◌, ◌≡◌}
 
--- a step's outcome
+-- what came of a step: its word, what it said, whether it was masked, and the fate of a loading
 pub record Outcome : Type 0 where
   pub word : DiskWord
   pub outs : List Out
@@ -17,29 +17,29 @@ pub record Outcome : Type 0 where
   pub fate : Option Fate
 
 -- an entry of a history
-pub record Entered : Type 0 where
+pub record HistoryEntry : Type 0 where
   pub op : Step
   pub outcome : Outcome
 
 -- the step and the word of an entry
-abbrev pub act_of : Entered → Act
-act_of e = record { step = e.op; word = e.outcome.word }
+abbrev pub act_of : HistoryEntry → Act
+act_of entry = record { step = entry.op; word = entry.outcome.word }
 
 module _ (set : Setting) where
-  -- the outcome that the machine gives
+  -- the outcome that the machine gives in a state
   abbrev pub outcome_of : Flat → Act → Outcome
-  outcome_of h a = record { word = a.word; outs = (next set h a.step a.word).outs; masked = masked h.public a.step; fate = word_fate h.public a.word }
+  outcome_of state act = record { word = act.word; outs = (next set state act.step act.word).outs; masked = masked state.public act.step; fate = word_fate state.public act.word }
 
-  -- every word fits, and each outcome is the machine's after the entries before it
-  abbrev pub LegalFrom : Flat → List Entered → Type 0
-  LegalFrom h [] = Unit {0}
-  LegalFrom h (e ∷ es) = IsTrue (fits set h.public e.op e.outcome.word) × (e.outcome ≡ outcome_of h (act_of e)) × LegalFrom (next set h e.op e.outcome.word).state es
+  -- from this state every word fits, and each outcome is the machine's after the entries before it
+  abbrev pub LegalFrom : Flat → List HistoryEntry → Type 0
+  LegalFrom state [] = Unit {0}
+  LegalFrom state (entry ∷ rest) = IsTrue (fits set state.public entry.op entry.outcome.word) × (entry.outcome ≡ outcome_of state (act_of entry)) × LegalFrom (next set state entry.op entry.outcome.word).state rest
 
-  -- legal from the opening state
-  abbrev pub Legal : List Entered → Type 0
+  -- legal from the opening
+  abbrev pub Legal : List HistoryEntry → Type 0
   Legal history = LegalFrom opening history
 
-  -- the words fit
+  -- from this state every word of the run fits
   abbrev pub FitsFrom : Flat → List Act → Type 0
-  FitsFrom h [] = Unit {0}
-  FitsFrom h (a ∷ acts) = IsTrue (fits set h.public a.step a.word) × FitsFrom (next set h a.step a.word).state acts
+  FitsFrom state [] = Unit {0}
+  FitsFrom state (act ∷ acts) = IsTrue (fits set state.public act.step act.word) × FitsFrom (next set state act.step act.word).state acts

@@ -1,91 +1,91 @@
--- Power, loading, and the device calls of a step.
+-- Power, loading of the store, and what a disk word does to the state. A step that would call the disk has a word that says what came of the calls.
 use Rattle.flat_machine.specs.KeyRows.{Change, KeyRows, changed, put_row, same_rows}
 use Rattle.flat_machine.specs.declared.types.Asked.{Asked}
-use Rattle.flat_machine.specs.State.{Public, Said, ends, forgetting, replies, still}
+use Rattle.flat_machine.specs.State.{Public, Said, ends, dropping_pin, replies, unchanged}
 use Rattle.flat_machine.specs.declared.types.Device.TheVariants.{Bad, Off, Ready, Stopped}
 use Rattle.pad_steps.specs.declared.commands.Command.{Command}
 use Rattle.pad_steps.specs.declared.steps.DiskWord.{DiskWord}
 use Rattle.pad_steps.specs.declared.steps.Fate.{Fate}
 use Rattle.std.specs.Prelude.{Bool, List, None, Option, Some, [], false, if◌then◌else◌, length, nat_lt, not, slice_get, take, true, ℕ, ◌*◌, ◌==◌}
-use Rattle.pad_steps.specs.declared.answers.Reply.TheVariants as reply
-use Rattle.pad_steps.specs.declared.answers.Refusal.TheVariants as refusal
-use Rattle.pad_steps.specs.declared.steps.DiskWord.TheVariants as word
+use Rattle.pad_steps.specs.declared.answers.Reply.TheVariants as replied
+use Rattle.pad_steps.specs.declared.answers.Refusal.TheVariants as refusals
+use Rattle.pad_steps.specs.declared.steps.DiskWord.TheVariants as words
 use Rattle.pad_steps.specs.declared.steps.Fate.TheVariants as fates
 
--- what Off and a Cut do: every pending request ends, and entry, PIN and part buffer are gone
+-- the device goes off, by Off or by a cut in any step: every pending request ends CONNECTIONLOST in order of ids; the entry, the held PIN and the part buffer are cleared, and maintain is off. Sessions, lock and clock stay
 abbrev pub powers_off : Public → Said
-powers_off p = forgetting true (ends (λ a. true) refusal.ConnectionLost (record p { device = Off; part = []; maintain = false }))
+powers_off public = dropping_pin true (ends (λ request. true) refusals.ConnectionLost (record public { device = Off; part = []; maintain = false }))
 
--- what a loading's word does
+-- what the word of a loading does: rows make the device ready and end a doubt, a fault stops it, a bad slot makes it bad, a cut leaves it off
 abbrev pub loads : Public → DiskWord → Said
-loads p word.Quiet = still p
-loads p word.Done = still p
-loads p (word.Failed n) = still (record p { device = Stopped })
-loads p (word.Cut n) = powers_off p
-loads p (word.Loaded rows) = still (record p { device = Ready; keys = rows; doubt = None; loaded = true })
-loads p (word.Bad slot) = still (record p { device = Bad slot })
+loads public words.Quiet = unchanged public
+loads public words.Done = unchanged public
+loads public (words.Failed count) = unchanged (record public { device = Stopped })
+loads public (words.Cut count) = powers_off public
+loads public (words.Loaded rows) = unchanged (record public { device = Ready; keys = rows; doubt = None; loaded = true })
+loads public (words.Bad slot) = unchanged (record public { device = Bad slot })
 
--- what the word of a replacing step does: n changes were made before a fault or a cut, and the next is in doubt
+-- what the word of a step does that replaces slots one by one: all were replaced and it is done; or after `count` of them a fault stopped the device or a cut came, and the next slot is in doubt
 abbrev pub replaces : Public → Asked Command → List Change → (Public → Said) → DiskWord → Said
-replaces p a todo done word.Quiet = done (record p { keys = changed todo p.keys })
-replaces p a todo done word.Done = done (record p { keys = changed todo p.keys })
-replaces p a todo done (word.Failed n) = replies (record p { device = Stopped; keys = changed (take n todo) p.keys; doubt = slice_get todo n }) a (reply.No refusal.HardwareError)
-replaces p a todo done (word.Cut n) = powers_off (record p { keys = changed (take n todo) p.keys; doubt = slice_get todo n })
-replaces p a todo done (word.Loaded rows) = done (record p { keys = changed todo p.keys })
-replaces p a todo done (word.Bad slot) = done (record p { keys = changed todo p.keys })
+replaces public request todo done words.Quiet = done (record public { keys = changed todo public.keys })
+replaces public request todo done words.Done = done (record public { keys = changed todo public.keys })
+replaces public request todo done (words.Failed count) = replies (record public { device = Stopped; keys = changed (take count todo) public.keys; doubt = slice_get todo count }) request (replied.No refusals.HardwareError)
+replaces public request todo done (words.Cut count) = powers_off (record public { keys = changed (take count todo) public.keys; doubt = slice_get todo count })
+replaces public request todo done (words.Loaded rows) = done (record public { keys = changed todo public.keys })
+replaces public request todo done (words.Bad slot) = done (record public { keys = changed todo public.keys })
 
 -- the loaded rows are the kept ones with the slot in doubt replaced
-abbrev pub doubted : Option Change → KeyRows → KeyRows → Bool
-doubted None rows loaded = false
-doubted (Some c) rows loaded = same_rows loaded (put_row c.slot c.row rows)
+abbrev pub doubt_carried_out : Option Change → KeyRows → KeyRows → Bool
+doubt_carried_out None rows loaded = false
+doubt_carried_out (Some change) rows loaded = same_rows loaded (put_row change.slot change.row rows)
 
--- how loaded rows compare with the kept ones
+-- how loaded rows compare with the kept ones: the first of this run; old, where they are the kept ones; new, where they are these with the slot in doubt replaced; else other
 abbrev pub fate_of : Public → KeyRows → Fate
-fate_of p rows = if not p.loaded then fates.First
-    else (if same_rows rows p.keys then fates.Old
-    else (if doubted p.doubt p.keys rows then fates.New else fates.Other))
+fate_of public rows = if not public.loaded then fates.First
+    else (if same_rows rows public.keys then fates.Old
+    else (if doubt_carried_out public.doubt public.keys rows then fates.New else fates.Other))
 
 -- the fate of a word, where it loaded rows
 abbrev pub word_fate : Public → DiskWord → Option Fate
-word_fate p word.Quiet = None
-word_fate p word.Done = None
-word_fate p (word.Failed n) = None
-word_fate p (word.Cut n) = None
-word_fate p (word.Loaded rows) = Some (fate_of p rows)
-word_fate p (word.Bad slot) = None
+word_fate public words.Quiet = None
+word_fate public words.Done = None
+word_fate public (words.Failed count) = None
+word_fate public (words.Cut count) = None
+word_fate public (words.Loaded rows) = Some (fate_of public rows)
+word_fate public (words.Bad slot) = None
 
--- the device calls that a step would make: none, a loading, or replacements of slots
+-- the device calls that a step makes if none is struck: none; a loading; or replacements of slots
 pub data Plan : Type 0 where
   Nothing : Plan
   Loading : Plan
   Replacing : List Change → Plan
 
--- two for a loading, four for each slot
+-- a loading makes two calls, a sync and a read; a replacement four, the record, a sync, the selector, a sync
 abbrev pub planned_calls : Plan → ℕ
 planned_calls Nothing = 0
 planned_calls Loading = 2
 planned_calls (Replacing todo) = 4 * length todo
 
--- the words of a loading; of m replacements
+-- the words that a loading may have; no slot was replaced before a fault or a cut in it
 abbrev pub fits_loading : DiskWord → Bool
-fits_loading word.Quiet = false
-fits_loading word.Done = false
-fits_loading (word.Failed n) = n == 0
-fits_loading (word.Cut n) = n == 0
-fits_loading (word.Loaded rows) = true
-fits_loading (word.Bad slot) = true
+fits_loading words.Quiet = false
+fits_loading words.Done = false
+fits_loading (words.Failed count) = count == 0
+fits_loading (words.Cut count) = count == 0
+fits_loading (words.Loaded rows) = true
+fits_loading (words.Bad slot) = true
 
--- the words of m replacements
+-- the words that so many replacements may have; Quiet where there are none
 abbrev pub fits_replacing : ℕ → DiskWord → Bool
-fits_replacing m word.Quiet = m == 0
-fits_replacing m word.Done = nat_lt 0 m
-fits_replacing m (word.Failed n) = nat_lt n m
-fits_replacing m (word.Cut n) = nat_lt n m
-fits_replacing m (word.Loaded rows) = false
-fits_replacing m (word.Bad slot) = false
+fits_replacing slots words.Quiet = slots == 0
+fits_replacing slots words.Done = nat_lt 0 slots
+fits_replacing slots (words.Failed count) = nat_lt count slots
+fits_replacing slots (words.Cut count) = nat_lt count slots
+fits_replacing slots (words.Loaded rows) = false
+fits_replacing slots (words.Bad slot) = false
 
--- the words of a plan
+-- the words that a plan may have
 abbrev pub fits_plan : Plan → DiskWord → Bool
-fits_plan Nothing w = fits_replacing 0 w
-fits_plan Loading w = fits_loading w
-fits_plan (Replacing todo) w = fits_replacing (length todo) w
+fits_plan Nothing word = fits_replacing 0 word
+fits_plan Loading word = fits_loading word
+fits_plan (Replacing todo) word = fits_replacing (length todo) word

@@ -1,38 +1,38 @@
--- Open, Close, Listen, Lock and Unlock.
-use Rattle.flat_machine.specs.Requests.{same}
-use Rattle.flat_machine.specs.Sessions.{asked_lock, grants, grants_after, holds, in_line, is_open, locked_out, out_of_line, with_classes, with_session, without_session}
-use Rattle.flat_machine.specs.State.{Public, Said, adding, ends, said, says}
+-- Open, Close, Listen, Lock and Unlock (WFSOpen, WFSClose, WFSRegister, WFSLock, WFSUnlock).
+use Rattle.flat_machine.specs.Requests.{same_session}
+use Rattle.flat_machine.specs.Sessions.{told_lock, grants, grants_after, holds, in_line, is_open, locked_out, out_of_line, with_classes, with_session, without_session}
+use Rattle.flat_machine.specs.State.{Public, Said, with_outs_after, ends, said, says}
 use Rattle.pad_steps.specs.declared.steps.Classes.{Classes}
 use Rattle.pad_words.specs.declared.numbers.Session.{Session}
 use Rattle.std.specs.Prelude.{false, if◌then◌else◌, length, ◌∷◌}
 use Rattle.pad_steps.specs.declared.answers.Out.TheVariants as out
 use Rattle.pad_steps.specs.declared.answers.Told.TheVariants as told
-use Rattle.pad_steps.specs.declared.answers.Refusal.TheVariants as refusal
+use Rattle.pad_steps.specs.declared.answers.Refusal.TheVariants as refusals
 
--- a step of a session that is not open is told so
-abbrev pub of_open : Public → Session → Said → Said
-of_open p s step = if is_open s p.sessions then step else says p (out.Told s (told.No refusal.NoSession))
+-- a step of a session that is not open is told NOSESSION and does nothing
+abbrev pub if_open : Public → Session → Said → Said
+if_open public session effect = if is_open session public.sessions then effect else says public (out.Told session (told.No refusals.NoSession))
 
--- Open
+-- Open: told ALREADYOPEN where it is open; else it is open, listens to nothing, and its floor is the last id drawn
 abbrev pub next_open : Public → Session → Said
-next_open p s = if is_open s p.sessions then says p (out.Told s (told.No refusal.AlreadyOpen))
-    else says (record p { sessions = with_session (record { session = s; classes = record { service = false; execute = false }; floor = length p.requests }) p.sessions }) (out.Told s told.Opened)
+next_open public session = if is_open session public.sessions then says public (out.Told session (told.No refusals.AlreadyOpen))
+    else says (record public { sessions = with_session (record { session = session; classes = record { service = false; execute = false }; floor = length public.requests }) public.sessions }) (out.Told session told.Opened)
 
--- the session's requests end, it is told, it leaves the line, and the next may be granted
+-- Close: the session's pending requests end CANCELED, it is told closed, it leaves the line, and where it held the lock the next is granted it
 abbrev pub next_close : Public → Session → Said
-next_close p s = of_open p s (adding (out.Told s told.Closed ∷ grants_after s p.line)
-    (ends (λ a. same a.session s) refusal.Canceled (record p { sessions = without_session s p.sessions; line = out_of_line s p.line })))
+next_close public session = if_open public session (with_outs_after (out.Told session told.Closed ∷ grants_after session public.line)
+    (ends (λ request. same_session request.session session) refusals.Canceled (record public { sessions = without_session session public.sessions; line = out_of_line session public.line })))
 
--- Listen
+-- Listen: the session listens to these classes
 abbrev pub next_listen : Public → Session → Classes → Said
-next_listen p s c = of_open p s (says (record p { sessions = with_classes s c p.sessions }) (out.Told s (told.Listening c)))
+next_listen public session classes = if_open public session (says (record public { sessions = with_classes session classes public.sessions }) (out.Told session (told.Listening classes)))
 
--- Lock
+-- Lock: told granted where no other session holds the lock; else told waiting, and the session stands in the line
 abbrev pub next_lock : Public → Session → Said
-next_lock p s = of_open p s (says (record p { line = in_line s p.line }) (out.Told s (asked_lock (locked_out s p.line))))
+next_lock public session = if_open public session (says (record public { line = in_line session public.line }) (out.Told session (told_lock (locked_out session public.line))))
 
--- Unlock
+-- Unlock: told NOTLOCKED where the session does not hold the lock; else it is told released, and the next in the line is granted it
 abbrev pub next_unlock : Public → Session → Said
-next_unlock p s = of_open p s (if holds s p.line
-    then said (record p { line = out_of_line s p.line }) (out.Told s told.Released ∷ grants (out_of_line s p.line))
-    else says p (out.Told s (told.No refusal.NotLocked)))
+next_unlock public session = if_open public session (if holds session public.line
+    then said (record public { line = out_of_line session public.line }) (out.Told session told.Released ∷ grants (out_of_line session public.line))
+    else says public (out.Told session (told.No refusals.NotLocked)))

@@ -1,5 +1,5 @@
--- The open sessions and the line for the lock.
-use Rattle.flat_machine.specs.Requests.{same}
+-- The open sessions (WFSOpen, WFSRegister) and the line for the lock (WFSLock). A session listens to service events, to execute events, to both or to none.
+use Rattle.flat_machine.specs.Requests.{same_session}
 use Rattle.flat_machine.specs.declared.types.SessionRow.{SessionRow}
 use Rattle.pad_steps.specs.declared.steps.Classes.{Classes}
 use Rattle.pad_steps.specs.declared.answers.Event.{Event}
@@ -13,71 +13,71 @@ use Rattle.pad_steps.specs.declared.answers.Told.TheVariants as told
 
 -- the session is open
 abbrev pub is_open : Session → List SessionRow → Bool
-is_open s rows = list_any (λ row. same row.session s) rows
+is_open session rows = list_any (λ row. same_session row.session session) rows
 
--- rows rise by session
+-- the rows with one more; they rise by session
 abbrev pub with_session : SessionRow → List SessionRow → List SessionRow
 with_session new [] = new ∷ []
 with_session new (row ∷ rows) = if nat_lt new.session.number row.session.number then new ∷ row ∷ rows else row ∷ with_session new rows
 
 -- the rows without this session
 abbrev pub without_session : Session → List SessionRow → List SessionRow
-without_session s rows = filter (λ row. not (same row.session s)) rows
+without_session session rows = filter (λ row. not (same_session row.session session)) rows
 
--- the row with other classes, if it is of this session
+-- the row with these event classes, if it is of this session
 abbrev pub listening : Session → Classes → SessionRow → SessionRow
-listening s c row = if same row.session s then record row { classes = c } else row
+listening session classes row = if same_session row.session session then record row { classes = classes } else row
 
--- the session hears these classes now
+-- the session listens to these event classes from now on
 abbrev pub with_classes : Session → Classes → List SessionRow → List SessionRow
-with_classes s c rows = map (listening s c) rows
+with_classes session classes rows = map (listening session classes) rows
 
--- the last id drawn before the session was opened
+-- the session's floor: the last id drawn before it was opened. It sees no request at or below it
 abbrev pub floor_of : Session → List SessionRow → ℕ
-floor_of s [] = 0
-floor_of s (row ∷ rows) = if same row.session s then row.floor else floor_of s rows
+floor_of session [] = 0
+floor_of session (row ∷ rows) = if same_session row.session session then row.floor else floor_of session rows
 
--- an event of an entry goes to the session that entered it, if it listens
-abbrev pub executes : List SessionRow → Session → Event → List Out
-executes rows s e = if list_any (λ row. same row.session s && row.classes.execute) rows then out.Event s e ∷ [] else []
+-- an execute event (KEY, ENTERDATA) goes to the session whose request is in work, if it listens to that class
+abbrev pub execute_event : List SessionRow → Session → Event → List Out
+execute_event rows session event = if list_any (λ row. same_session row.session session && row.classes.execute) rows then out.Event session event ∷ [] else []
 
--- a service event goes to every open session that listens
-abbrev pub serves : List SessionRow → Event → List Out
-serves rows e = map (λ row. out.Event row.session e) (filter (λ row. row.classes.service) rows)
+-- a service event (INITIALIZED, ILLEGAL_KEY_ACCESS) goes to every open session that listens to that class, in rising order
+abbrev pub service_events : List SessionRow → Event → List Out
+service_events rows event = map (λ row. out.Event row.session event) (filter (λ row. row.classes.service) rows)
 
--- the lock line: the first holds the lock, the others wait in that order
+-- the first in the line holds the lock; the others wait in that order
 abbrev pub holder_of : List Session → Option Session
 holder_of [] = None
-holder_of (s ∷ line) = Some s
+holder_of (session ∷ line) = Some session
 
 -- the session holds the lock
 abbrev pub holds : Session → List Session → Bool
-holds s [] = false
-holds s (x ∷ line) = same x s
+holds session [] = false
+holds session (first ∷ line) = same_session first session
 
--- another session than this one holds the lock
+-- the session that holds the lock, where it is another than this one
 abbrev pub locked_out : Session → List Session → Option Session
-locked_out s [] = None
-locked_out s (x ∷ line) = if same x s then None else Some x
+locked_out session [] = None
+locked_out session (first ∷ line) = if same_session first session then None else Some first
 
--- the session stands in the line, at the end if it did not before
+-- the session stands in the line: at the end, if it was not in it
 abbrev pub in_line : Session → List Session → List Session
-in_line s line = if list_any (λ x. same x s) line then line else line ++ s ∷ []
+in_line session line = if list_any (λ other. same_session other session) line then line else line ++ session ∷ []
 
--- what a session that asks for the lock is told
-abbrev pub asked_lock : Option Session → Told
-asked_lock None = told.Granted
-asked_lock (Some x) = told.Waiting x
+-- granted, or waiting with the session that holds the lock
+abbrev pub told_lock : Option Session → Told
+told_lock None = told.Granted
+told_lock (Some holder) = told.Waiting holder
 
 -- the line without this session
 abbrev pub out_of_line : Session → List Session → List Session
-out_of_line s line = filter (λ x. not (same x s)) line
+out_of_line session line = filter (λ other. not (same_session other session)) line
 
--- the first of a line is told that it holds the lock
+-- the first of the line is told that it is granted the lock
 abbrev pub grants : List Session → List Out
 grants [] = []
-grants (x ∷ line) = out.Told x told.Granted ∷ []
+grants (first ∷ line) = out.Told first told.Granted ∷ []
 
--- what a session's leaving says: where it held the lock, the next is granted
+-- where the leaving session held the lock, the next in the line is granted it
 abbrev pub grants_after : Session → List Session → List Out
-grants_after s line = if holds s line then grants (out_of_line s line) else []
+grants_after session line = if holds session line then grants (out_of_line session line) else []

@@ -1,4 +1,4 @@
--- What is so of every state that a run can come to, and of what is kept of it.
+-- What the code may rely on in every state that a run can come to.
 use Rattle.flat_machine.specs.RequestSteps.{command_refusal}
 use Rattle.flat_machine.specs.declared.types.Row.{Row}
 use Rattle.flat_machine.specs.declared.types.Row.TheVariants.{Gone, InWork, Waiting}
@@ -9,36 +9,36 @@ use Rattle.pad_steps.specs.declared.commands.Command.{Command}
 use Rattle.pad_steps.specs.declared.answers.Reply.{Reply}
 use Rattle.pad_steps.specs.declared.steps.Step.{Step}
 use Rattle.std.specs.Prelude.{Bool, IsTrue, List, None, [], not, true, ◌&&◌, ◌∷◌, ◌≡◌}
-use Rattle.pad_steps.specs.declared.steps.Step.TheVariants as step
+use Rattle.pad_steps.specs.declared.steps.Step.TheVariants as steps
 
 -- each pending request has a command that passes the test
 abbrev pub pending_pass : (Command → Bool) → List (Row Command Reply) → Bool
-pending_pass ok [] = true
-pending_pass ok (Waiting a ∷ rows) = ok a.command && pending_pass ok rows
-pending_pass ok (InWork a ∷ rows) = ok a.command && pending_pass ok rows
-pending_pass ok (Gone id s r ∷ rows) = pending_pass ok rows
+pending_pass passes [] = true
+pending_pass passes (Waiting request ∷ rows) = passes request.command && pending_pass passes rows
+pending_pass passes (InWork request ∷ rows) = passes request.command && pending_pass passes rows
+pending_pass passes (Gone id session reply ∷ rows) = pending_pass passes rows
 
--- the command passes, and the device is not off
+-- the command passes the test, and the device is not off
 abbrev pub allowed : (Command → Bool) → Device → Command → Bool
-allowed ok d c = ok c && not (is_off d)
+allowed passes device command = passes command && not (is_off device)
 
--- pending commands pass the test, and none is pending while the device is off
+-- every pending command passes the test, and none is pending while the device is off
 abbrev pub Sound : (Command → Bool) → Public → Type 0
-Sound ok p = IsTrue (pending_pass (allowed ok p.device) p.requests)
+Sound passes public = IsTrue (pending_pass (allowed passes public.device) public.requests)
 
--- a command that is not refused at Submit passes
+-- a command that is not refused as it is submitted passes the test
 abbrev pub SubmitsOk : (Command → Bool) → Works → Step → Type 0
-SubmitsOk ok works (step.Open s) = Unit {0}
-SubmitsOk ok works (step.Close s) = Unit {0}
-SubmitsOk ok works (step.Listen s c) = Unit {0}
-SubmitsOk ok works (step.Lock s) = Unit {0}
-SubmitsOk ok works (step.Unlock s) = Unit {0}
-SubmitsOk ok works (step.Submit s limit c) = command_refusal works c ≡ None → IsTrue (ok c)
-SubmitsOk ok works (step.Cancel s id) = Unit {0}
-SubmitsOk ok works step.Begin = Unit {0}
-SubmitsOk ok works step.Finish = Unit {0}
-SubmitsOk ok works (step.Press k) = Unit {0}
-SubmitsOk ok works (step.Tick n) = Unit {0}
-SubmitsOk ok works (step.Ask s q) = Unit {0}
-SubmitsOk ok works step.Off = Unit {0}
-SubmitsOk ok works step.Boot = Unit {0}
+SubmitsOk passes works (steps.Open session) = Unit {0}
+SubmitsOk passes works (steps.Close session) = Unit {0}
+SubmitsOk passes works (steps.Listen session classes) = Unit {0}
+SubmitsOk passes works (steps.Lock session) = Unit {0}
+SubmitsOk passes works (steps.Unlock session) = Unit {0}
+SubmitsOk passes works (steps.Submit session limit command) = command_refusal works command ≡ None → IsTrue (passes command)
+SubmitsOk passes works (steps.Cancel session id) = Unit {0}
+SubmitsOk passes works steps.Begin = Unit {0}
+SubmitsOk passes works steps.Finish = Unit {0}
+SubmitsOk passes works (steps.Press key) = Unit {0}
+SubmitsOk passes works (steps.Tick ticks) = Unit {0}
+SubmitsOk passes works (steps.Ask session question) = Unit {0}
+SubmitsOk passes works steps.Off = Unit {0}
+SubmitsOk passes works steps.Boot = Unit {0}

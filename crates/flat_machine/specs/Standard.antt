@@ -1,4 +1,4 @@
--- The standard PIN work: blocks and local checks.
+-- The standard PIN work: PIN blocks of ISO 9564-1 formats 0, 1 and 3, of the IBM 3624 and of Diebold (GET_PINBLOCK), and the local check of an IBM 3624 PIN (LOCAL_DES).
 use Rattle.flat_machine.specs.Ciphers.{Ciphers, packed, xor_bytes}
 use Rattle.flat_machine.specs.Decisions.{Decided, Goes, Stops, unless}
 use Rattle.flat_machine.specs.Works.{Wants, Works}
@@ -11,167 +11,167 @@ use Rattle.pad_steps.specs.declared.answers.Refusal.{Refusal}
 use Rattle.pad_words.specs.declared.bytes.Block.{Block}
 use Rattle.std.specs.List.{list_all}
 use Rattle.std.specs.Prelude.{Bool, List, None, Option, Some, [], bytes_eq, drop, false, if◌then◌else◌, is_some, length, map, nat_le, nat_lt, not, replicate, slice_index, take, true, ℕ, ◌%◌, ◌&&◌, ◌++◌, ◌+◌, ◌-◌, ◌/◌, ◌==◌, ◌||◌, ◌∷◌}
-use Rattle.pad_steps.specs.declared.answers.Answer.TheVariants as answer
-use Rattle.pad_steps.specs.declared.answers.Refusal.TheVariants as refusal
-use Rattle.pad_steps.specs.declared.commands.Form.TheVariants as form
+use Rattle.pad_steps.specs.declared.answers.Answer.TheVariants as answers
+use Rattle.pad_steps.specs.declared.answers.Refusal.TheVariants as refusals
+use Rattle.pad_steps.specs.declared.commands.Form.TheVariants as forms
 use Rattle.key_attributes.specs.declared.Use.TheVariants as purpose
 use Rattle.pad_steps.specs.declared.commands.PinRequest.TheVariants as pin
 
 -- all are decimal digits
 abbrev pub all_decimal : List ℕ → Bool
-all_decimal ns = list_all (λ n. nat_lt n 10) ns
+all_decimal values = list_all (λ value. nat_lt value 10) values
 
--- 12 to 19 decimal digits
+-- 12 to 19 decimal digits: a PAN without its check digit
 abbrev pub is_pan : List ℕ → Bool
-is_pan ns = nat_le 12 (length ns) && nat_le (length ns) 19 && all_decimal ns
+is_pan digits = nat_le 12 (length digits) && nat_le (length digits) 19 && all_decimal digits
 
--- the customer data that a form takes
+-- the customer data that a form takes: a PAN for formats 0 and 3, ten digits for format 1, one hexadecimal digit for Diebold with a coordination number, none for the others
 abbrev pub fits_form : Form → List ℕ → Bool
-fits_form form.Iso0 ns = is_pan ns
-fits_form form.Iso1 ns = (length ns == 10) && all_decimal ns
-fits_form form.Iso2 ns = false
-fits_form form.Iso3 ns = is_pan ns
-fits_form form.Iso4 ns = false
-fits_form form.Ibm3624 ns = length ns == 0
-fits_form form.Diebold ns = length ns == 0
-fits_form form.DieboldCo ns = length ns == 1
+fits_form forms.Iso0 customer = is_pan customer
+fits_form forms.Iso1 customer = (length customer == 10) && all_decimal customer
+fits_form forms.Iso2 customer = false
+fits_form forms.Iso3 customer = is_pan customer
+fits_form forms.Iso4 customer = false
+fits_form forms.Ibm3624 customer = length customer == 0
+fits_form forms.Diebold customer = length customer == 0
+fits_form forms.DieboldCo customer = length customer == 1
 
--- a block of this form is made
+-- blocks of this form are made; those of ISO formats 2 and 4 are not
 abbrev pub is_built : Form → Bool
-is_built form.Iso0 = true
-is_built form.Iso1 = true
-is_built form.Iso2 = false
-is_built form.Iso3 = true
-is_built form.Iso4 = false
-is_built form.Ibm3624 = true
-is_built form.Diebold = true
-is_built form.DieboldCo = true
+is_built forms.Iso0 = true
+is_built forms.Iso1 = true
+is_built forms.Iso2 = false
+is_built forms.Iso3 = true
+is_built forms.Iso4 = false
+is_built forms.Ibm3624 = true
+is_built forms.Diebold = true
+is_built forms.DieboldCo = true
 
--- the greatest length of a PIN in a form; the least is 4
+-- the greatest PIN length of a form; the least is 4
 abbrev pub longest : Form → ℕ
-longest form.Iso0 = 12
-longest form.Iso1 = 12
-longest form.Iso2 = 0
-longest form.Iso3 = 12
-longest form.Iso4 = 0
-longest form.Ibm3624 = 16
-longest form.Diebold = 16
-longest form.DieboldCo = 12
+longest forms.Iso0 = 12
+longest forms.Iso1 = 12
+longest forms.Iso2 = 0
+longest forms.Iso3 = 12
+longest forms.Iso4 = 0
+longest forms.Ibm3624 = 16
+longest forms.Diebold = 16
+longest forms.DieboldCo = 12
 
--- why a block command is refused at Submit
+-- why a block is refused as it is submitted: FORMATNOTSUPPORTED, then INVALIDDATA for customer data that does not fit, or XOR data without a second key
 abbrev pub admit_block : BlockRequest → Option Refusal
-admit_block b = if not (is_built b.form) then Some refusal.FormatNotSupported
-    else (if not (fits_form b.form b.customer) || (is_some b.xor && not (is_some b.second)) then Some refusal.InvalidData else None)
+admit_block block = if not (is_built block.form) then Some refusals.FormatNotSupported
+    else (if not (fits_form block.form block.customer) || (is_some block.xor && not (is_some block.second)) then Some refusals.InvalidData else None)
 
--- why a check is refused at Submit
+-- why a check is refused as it is submitted: INVALIDDATA for a count of 0 or above 16, or an offset longer than the count
 abbrev pub admit_check : CheckRequest → Option Refusal
-admit_check c = if (c.count == 0) || nat_lt 16 c.count || nat_lt c.count (length c.offset) then Some refusal.InvalidData else None
+admit_check check = if (check.count == 0) || nat_lt 16 check.count || nat_lt check.count (length check.offset) then Some refusals.InvalidData else None
 
--- the standard `admit`
+-- why a request is refused as it is submitted; a request of another work is UNSUPPCOMMAND
 abbrev pub standard_admit : PinRequest → Option Refusal
-standard_admit (pin.Block b) = admit_block b
-standard_admit (pin.Check c) = admit_check c
-standard_admit (pin.Extra x) = Some refusal.UnsuppCommand
+standard_admit (pin.Block block) = admit_block block
+standard_admit (pin.Check check) = admit_check check
+standard_admit (pin.Extra extra) = Some refusals.UnsuppCommand
 
--- the standard `wants`
+-- one or two keys for FUNCTION
 abbrev pub standard_wants : PinRequest → Wants
-standard_wants (pin.Block b) = record { first = b.key; second = b.second; wanted = purpose.Function }
-standard_wants (pin.Check c) = record { first = c.key; second = None; wanted = purpose.Function }
-standard_wants (pin.Extra x) = record { first = x.key; second = None; wanted = purpose.Function }
+standard_wants (pin.Block block) = record { first = block.key; second = block.second; wanted = purpose.Function }
+standard_wants (pin.Check check) = record { first = check.key; second = None; wanted = purpose.Function }
+standard_wants (pin.Extra extra) = record { first = extra.key; second = None; wanted = purpose.Function }
 
--- the fill words of a form
+-- format 3 fills its field of 14 nibbles with fill words; no other form draws any
 abbrev pub fill_count : Form → ℕ → ℕ
-fill_count form.Iso0 n = 0
-fill_count form.Iso1 n = 0
-fill_count form.Iso2 n = 0
-fill_count form.Iso3 n = 14 - n
-fill_count form.Iso4 n = 0
-fill_count form.Ibm3624 n = 0
-fill_count form.Diebold n = 0
-fill_count form.DieboldCo n = 0
+fill_count forms.Iso0 size = 0
+fill_count forms.Iso1 size = 0
+fill_count forms.Iso2 size = 0
+fill_count forms.Iso3 size = 14 - size
+fill_count forms.Iso4 size = 0
+fill_count forms.Ibm3624 size = 0
+fill_count forms.Diebold size = 0
+fill_count forms.DieboldCo size = 0
 
--- a block refuses by length alone
+-- a block refuses by the PIN's length alone
 abbrev pub ready_block : Form → ℕ → Decided ℕ
-ready_block f n = unless (nat_lt n 4 || nat_lt (longest f) n) refusal.LengthError (Goes (fill_count f n))
+ready_block form size = unless (nat_lt size 4 || nat_lt (longest form) size) refusals.LengthError (Goes (fill_count form size))
 
--- the standard `ready`
+-- LENGTHERROR where the PIN's length does not suit the form, or is below the count of a check. Key lengths refuse nothing
 abbrev pub standard_ready : PinRequest → ℕ → ℕ → Option ℕ → Decided ℕ
-standard_ready (pin.Block b) n first second = ready_block b.form n
-standard_ready (pin.Check c) n first second = unless (nat_lt n c.count) refusal.LengthError (Goes 0)
-standard_ready (pin.Extra x) n first second = Stops refusal.LengthError None
+standard_ready (pin.Block block) size first second = ready_block block.form size
+standard_ready (pin.Check check) size first second = unless (nat_lt size check.count) refusals.LengthError (Goes 0)
+standard_ready (pin.Extra extra) size first second = Stops refusals.LengthError None
 
 -- the first 16 nibbles
 abbrev pub sixteen : List ℕ → List ℕ
-sixteen ns = take 16 ns
+sixteen nibbles = take 16 nibbles
 
--- 0000 and the 12 rightmost digits of the PAN
+-- the account number field of ISO 9564-1: 0000 and the 12 rightmost digits of the PAN
 abbrev pub pan_field : List ℕ → List ℕ
-pan_field ns = 0 ∷ 0 ∷ 0 ∷ 0 ∷ drop (length ns - 12) ns
+pan_field pan = 0 ∷ 0 ∷ 0 ∷ 0 ∷ drop (length pan - 12) pan
 
--- ten and the fill word modulo 6
+-- a fill nibble is 10 and the fill word modulo 6, so it is A to F
 abbrev pub fill_nibbles : List ℕ → List ℕ
-fill_nibbles words = map (λ w. 10 + w % 6) words
+fill_nibbles words = map (λ word. 10 + word % 6) words
 
--- the 16 nibbles of a form
+-- the 16 nibbles of a form. Formats 0 and 3 (ISO 9564-1): control nibble, length, PIN, fill, XORed with the account number field. Format 1: control nibble, length, PIN, transaction digits. The others: the PIN, after the coordination number if there is one, and the padding nibble
 abbrev pub block_nibbles : Form → List ℕ → List ℕ → ℕ → List ℕ → List ℕ
-block_nibbles form.Iso0 digits customer pad words = xor_bytes (sixteen (0 ∷ length digits ∷ digits ++ replicate 16 15)) (pan_field customer)
-block_nibbles form.Iso1 digits customer pad words = sixteen (1 ∷ length digits ∷ digits ++ customer)
-block_nibbles form.Iso2 digits customer pad words = []
-block_nibbles form.Iso3 digits customer pad words = xor_bytes (sixteen (3 ∷ length digits ∷ digits ++ fill_nibbles words)) (pan_field customer)
-block_nibbles form.Iso4 digits customer pad words = []
-block_nibbles form.Ibm3624 digits customer pad words = sixteen (digits ++ replicate 16 pad)
-block_nibbles form.Diebold digits customer pad words = sixteen (digits ++ replicate 16 pad)
-block_nibbles form.DieboldCo digits customer pad words = sixteen (customer ++ digits ++ replicate 16 pad)
+block_nibbles forms.Iso0 digits customer pad fill = xor_bytes (sixteen (0 ∷ length digits ∷ digits ++ replicate 16 15)) (pan_field customer)
+block_nibbles forms.Iso1 digits customer pad fill = sixteen (1 ∷ length digits ∷ digits ++ customer)
+block_nibbles forms.Iso2 digits customer pad fill = []
+block_nibbles forms.Iso3 digits customer pad fill = xor_bytes (sixteen (3 ∷ length digits ∷ digits ++ fill_nibbles fill)) (pan_field customer)
+block_nibbles forms.Iso4 digits customer pad fill = []
+block_nibbles forms.Ibm3624 digits customer pad fill = sixteen (digits ++ replicate 16 pad)
+block_nibbles forms.Diebold digits customer pad fill = sixteen (digits ++ replicate 16 pad)
+block_nibbles forms.DieboldCo digits customer pad fill = sixteen (customer ++ digits ++ replicate 16 pad)
 
--- each byte as two nibbles
+-- bytes as nibbles, the left nibble first
 abbrev pub unpacked : List ℕ → List ℕ
 unpacked [] = []
-unpacked (x ∷ xs) = x / 16 ∷ x % 16 ∷ unpacked xs
+unpacked (byte ∷ rest) = byte / 16 ∷ byte % 16 ∷ unpacked rest
 
--- XORed with data, if there is any
+-- XORed with the data, if there is any
 abbrev pub xor_with : Option Block → List ℕ → List ℕ
-xor_with None x = x
-xor_with (Some b) x = xor_bytes x b.0
+xor_with None bytes = bytes
+xor_with (Some block) bytes = xor_bytes bytes block.0
 
--- the digit of a table at each nibble
+-- each nibble replaced by the digit that the table has for it
 abbrev pub looked_up : List ℕ → List ℕ → List ℕ
-looked_up table ns = map (λ n. slice_index table n) ns
+looked_up table nibbles = map (λ nibble. slice_index table nibble) nibbles
 
--- digit and offset, modulo 10
+-- each natural digit plus the offset's digit modulo 10, and 0 past the offset's end
 abbrev pub sums : List ℕ → List ℕ → List ℕ
 sums [] offset = []
-sums (d ∷ ds) [] = d % 10 ∷ sums ds []
-sums (d ∷ ds) (o ∷ os) = (d + o) % 10 ∷ sums ds os
+sums (digit ∷ rest) [] = digit % 10 ∷ sums rest []
+sums (digit ∷ rest) (added ∷ others) = (digit + added) % 10 ∷ sums rest others
 
--- with the no-zero flag a first sum of 0 becomes 1
+-- with the flag a first sum of 0 becomes 1
 abbrev pub no_zero_first : Bool → List ℕ → List ℕ
 no_zero_first flag [] = []
-no_zero_first flag (d ∷ ds) = (if flag && (d == 0) then 1 else d) ∷ ds
+no_zero_first flag (first ∷ rest) = (if flag && (first == 0) then 1 else first) ∷ rest
 
 module _ (cipher : Ciphers) where
-  -- encrypted under the second key, if there is one
+  -- where there is a second key: XORed with the data, if any, and encrypted under it
   abbrev pub encrypted_again : Option Block → Option (List ℕ) → List ℕ → List ℕ
-  encrypted_again mixed None x = x
-  encrypted_again mixed (Some second) x = cipher.tdea second (xor_with mixed x)
+  encrypted_again mixed None bytes = bytes
+  encrypted_again mixed (Some second) bytes = cipher.tdea second (xor_with mixed bytes)
 
-  -- the encrypted block of a command
+  -- the block of a request, encrypted under the first key and, where there is one, the second
   abbrev pub block_bytes : BlockRequest → List ℕ → List ℕ → Option (List ℕ) → List ℕ → List ℕ
-  block_bytes b digits first second words = encrypted_again b.xor second (cipher.tdea first (packed (block_nibbles b.form digits b.customer b.pad words)))
+  block_bytes block digits first second fill = encrypted_again block.xor second (cipher.tdea first (packed (block_nibbles block.form digits block.customer block.pad fill)))
 
-  -- the sums that the PIN's first digits must be
+  -- the digits that a PIN must have (IBM 3624): the padded validation data encrypted, its nibbles replaced by the table, the offset added
   abbrev pub check_sums : CheckRequest → List ℕ → List ℕ
-  check_sums c value = no_zero_first c.no_zero (sums (looked_up c.table (unpacked (cipher.tdea value (packed (sixteen (c.validation ++ replicate 16 c.pad)))))) c.offset)
+  check_sums check value = no_zero_first check.no_zero (sums (looked_up check.table (unpacked (cipher.tdea value (packed (sixteen (check.validation ++ replicate 16 check.pad)))))) check.offset)
 
-  -- the first PIN digits are the sums
+  -- the first digits of the PIN, as many as the count, are those sums
   abbrev pub checks : CheckRequest → List ℕ → List ℕ → Bool
-  checks c digits value = bytes_eq (take c.count digits) (take c.count (check_sums c value))
+  checks check digits value = bytes_eq (take check.count digits) (take check.count (check_sums check value))
 
-  -- the standard `result`
+  -- a block's bytes, or whether a check holds
   abbrev pub standard_result : PinRequest → List ℕ → List ℕ → Option (List ℕ) → List ℕ → Answer
-  standard_result (pin.Block b) digits first second words = answer.Block (record { 0 = block_bytes b digits first second words })
-  standard_result (pin.Check c) digits first second words = answer.Checked (checks c digits first)
-  standard_result (pin.Extra x) digits first second words = answer.Checked false
+  standard_result (pin.Block block) digits first second fill = answers.Block (record { 0 = block_bytes block digits first second fill })
+  standard_result (pin.Check check) digits first second fill = answers.Checked (checks check digits first)
+  standard_result (pin.Extra extra) digits first second fill = answers.Checked false
 
-  -- blocks and checks, and no extra
+  -- the standard work: blocks and checks
   abbrev pub standard_work : Works
   standard_work = record { admit = standard_admit; wants = standard_wants; ready = standard_ready; result = standard_result }

@@ -1,11 +1,11 @@
--- The machine's state.
+-- The machine's state, and what a step does to it. A digit of a PIN stands in two fields of `Flat` alone, `presses` and `held`: a step that cannot see them is a function on `Public`.
 use Rattle.flat_machine.specs.Decisions.{Decided, Goes, Stops}
 use Rattle.flat_machine.specs.Entries.{Entry, entry_of}
 use Rattle.flat_machine.specs.KeyRows.{Change, KeyRows}
 use Rattle.flat_machine.specs.Requests.{ended_where, finished, pending_where, working}
 use Rattle.flat_machine.specs.declared.types.Asked.{Asked}
 use Rattle.flat_machine.specs.declared.types.Row.{Row}
-use Rattle.flat_machine.specs.Sessions.{serves}
+use Rattle.flat_machine.specs.Sessions.{service_events}
 use Rattle.flat_machine.specs.declared.types.Device.{Device}
 use Rattle.flat_machine.specs.declared.types.Device.TheVariants.{Bad, Off, Ready, Stopped}
 use Rattle.flat_machine.specs.declared.types.SessionRow.{SessionRow}
@@ -17,11 +17,11 @@ use Rattle.pad_steps.specs.declared.answers.Reply.{Reply}
 use Rattle.pad_words.specs.declared.numbers.Session.{Session}
 use Rattle.std.specs.Prelude.{Bool, List, None, Option, Some, [], false, if◌then◌else◌, map, true, ℕ, ◌++◌, ◌||◌, ◌∷◌}
 use Rattle.pad_steps.specs.declared.answers.Out.TheVariants as out
-use Rattle.pad_steps.specs.declared.answers.Reply.TheVariants as reply
-use Rattle.pad_steps.specs.declared.answers.Event.TheVariants as event
-use Rattle.pad_steps.specs.declared.answers.Refusal.TheVariants as refusal
+use Rattle.pad_steps.specs.declared.answers.Reply.TheVariants as replied
+use Rattle.pad_steps.specs.declared.answers.Event.TheVariants as events
+use Rattle.pad_steps.specs.declared.answers.Refusal.TheVariants as refusals
 
--- all of the state that no digit of a PIN reaches
+-- all of the state that no digit of a PIN reaches: the device; the key rows; the slot in doubt with the row that it was to get; whether a loading succeeded in this run; the open sessions; the line for the lock; all requests of the run; the clock in ticks; the part buffer as nibbles; whether a used PIN is maintained; and how many fill words were drawn
 pub record Public : Type 0 where
   pub device : Device
   pub keys : KeyRows
@@ -35,144 +35,144 @@ pub record Public : Type 0 where
   pub maintain : Bool
   pub drawn : ℕ
 
--- a state: the public part, the active presses of the running entry with the latest first, and the held digits
+-- a state: the public part, the active keys pressed in the running entry with the latest first, and the digits of the held PIN, empty for none
 pub record Flat : Type 0 where
   pub public : Public
   pub presses : List Key
   pub held : List ℕ
 
--- the public part before the first step
+-- the public part before the first step: the device off, every list empty, clock 0
 abbrev pub blank : Public
 blank = record { device = Off; keys = []; doubt = None; loaded = false; sessions = []; line = []; requests = []; clock = 0; part = []; maintain = false; drawn = 0 }
 
--- before the first step
+-- the state before the first step: the machine is off
 abbrev pub opening : Flat
 opening = record { public = blank; presses = []; held = [] }
 
--- before the first step of a pad that is on, with an empty store
+-- the state of a pad that is on from the start, with an empty store: where runs begin for a program that has no disk
 abbrev pub ready_opening : Flat
 ready_opening = record { public = record blank { device = Ready }; presses = []; held = [] }
 
--- a step's effect on the public part, what it says, and whether the held PIN and the presses go
+-- a step's effect: the public part after it, what it says in order, and whether the held PIN and the presses are dropped
 pub record Said : Type 0 where
   pub public : Public
   pub outs : List Out
   pub drops_pin : Bool
   pub drops_presses : Bool
 
--- the public part and what is said; PIN and presses stay
+-- the public part after, and these outs; PIN and presses stay
 abbrev pub said : Public → List Out → Said
-said p outs = record { public = p; outs = outs; drops_pin = false; drops_presses = false }
+said public outs = record { public = public; outs = outs; drops_pin = false; drops_presses = false }
 
--- one thing is said
+-- the public part after, and one out
 abbrev pub says : Public → Out → Said
-says p o = said p (o ∷ [])
+says public only = said public (only ∷ [])
 
--- nothing is said
-abbrev pub still : Public → Said
-still p = said p []
+-- nothing happens: the public part stays and nothing is said
+abbrev pub unchanged : Public → Said
+unchanged public = said public []
 
--- with outs before
-abbrev pub leading : List Out → Said → Said
-leading outs s = record { public = s.public; outs = outs ++ s.outs; drops_pin = s.drops_pin; drops_presses = s.drops_presses }
+-- the effect with these outs before its own
+abbrev pub with_outs_before : List Out → Said → Said
+with_outs_before outs effect = record { public = effect.public; outs = outs ++ effect.outs; drops_pin = effect.drops_pin; drops_presses = effect.drops_presses }
 
--- with the presses forgotten, where the test holds
-abbrev pub ending_entry : Bool → Said → Said
-ending_entry b s = record { public = s.public; outs = s.outs; drops_pin = s.drops_pin; drops_presses = b || s.drops_presses }
+-- the effect, and the presses are dropped where the test holds
+abbrev pub dropping_presses : Bool → Said → Said
+dropping_presses test effect = record { public = effect.public; outs = effect.outs; drops_pin = effect.drops_pin; drops_presses = test || effect.drops_presses }
 
--- with the PIN forgotten, where the test holds
-abbrev pub forgetting : Bool → Said → Said
-forgetting b s = record { public = s.public; outs = s.outs; drops_pin = b || s.drops_pin; drops_presses = s.drops_presses }
+-- the effect, and the held PIN is dropped where the test holds
+abbrev pub dropping_pin : Bool → Said → Said
+dropping_pin test effect = record { public = effect.public; outs = effect.outs; drops_pin = test || effect.drops_pin; drops_presses = effect.drops_presses }
 
--- with outs after
-abbrev pub adding : List Out → Said → Said
-adding outs s = record { public = s.public; outs = s.outs ++ outs; drops_pin = s.drops_pin; drops_presses = s.drops_presses }
+-- the effect with these outs after its own
+abbrev pub with_outs_after : List Out → Said → Said
+with_outs_after outs effect = record { public = effect.public; outs = effect.outs ++ outs; drops_pin = effect.drops_pin; drops_presses = effect.drops_presses }
 
--- the state after a step, and what was said
+-- the state after a step, and what the step said
 pub record After : Type 0 where
   pub state : Flat
   pub outs : List Out
 
--- a step that digits do not reach
+-- an effect on a state: what is dropped becomes empty
 abbrev pub after_said : Flat → Said → After
-after_said h s = record { state = record { public = s.public; presses = if s.drops_presses then [] else h.presses; held = if s.drops_pin then [] else h.held }; outs = s.outs }
+after_said state effect = record { state = record { public = effect.public; presses = if effect.drops_presses then [] else state.presses; held = if effect.drops_pin then [] else state.held }; outs = effect.outs }
 
--- the entry that runs, and whose it is
+-- the entry that runs: the id and the session of its request, and its rules
 pub record Running : Type 0 where
   pub id : ℕ
   pub session : Session
   pub entry : Entry
 
--- the entry of a request in work
-abbrev pub run_of : Asked Command → Option Entry → Option Running
-run_of a None = None
-run_of a (Some e) = Some (record { id = a.id; session = a.session; entry = e })
+-- a request in work runs the entry that its command asks for, if it asks for one
+abbrev pub running_by : Asked Command → Option Entry → Option Running
+running_by request None = None
+running_by request (Some entry) = Some (record { id = request.id; session = request.session; entry = entry })
 
--- the entry that a request in work has
+-- the entry that the request in work runs, if there is one and it is an entry command
 abbrev pub running_in : Option (Asked Command) → Option Running
 running_in None = None
-running_in (Some a) = run_of a (entry_of a.command)
+running_in (Some request) = running_by request (entry_of request.command)
 
--- an entry runs where an entry command is in work
+-- the entry that runs
 abbrev pub running : Public → Option Running
-running p = running_in (working p.requests)
+running public = running_in (working public.requests)
 
--- the device as a number
+-- the device as a number: off 0, ready 1, stopped 2, bad 3
 abbrev pub device_number : Device → ℕ
 device_number Off = 0
 device_number Ready = 1
 device_number Stopped = 2
-device_number (Bad n) = 3
+device_number (Bad slot) = 3
 
 -- the device is off
 abbrev pub is_off : Device → Bool
 is_off Off = true
 is_off Ready = false
 is_off Stopped = false
-is_off (Bad n) = false
+is_off (Bad slot) = false
 
 -- the device is ready
 abbrev pub is_ready : Device → Bool
 is_ready Off = false
 is_ready Ready = true
 is_ready Stopped = false
-is_ready (Bad n) = false
+is_ready (Bad slot) = false
 
--- a stopped or bad device refuses
+-- HARDWAREERROR of a stopped device, BADSTORE of one whose store reads as bad
 abbrev pub device_refusal : Device → Option Refusal
 device_refusal Off = None
 device_refusal Ready = None
-device_refusal Stopped = Some refusal.HardwareError
-device_refusal (Bad n) = Some (refusal.BadStore n)
+device_refusal Stopped = Some refusals.HardwareError
+device_refusal (Bad slot) = Some (refusals.BadStore slot)
 
--- refused by the device, or goes on
+-- what the command comes to, unless the device refuses it first
 abbrev pub on_device : {A : Type 0} → Option Refusal → Decided A → Decided A
 on_device None rest = rest
-on_device (Some r) rest = Stops r None
+on_device (Some refusal) rest = Stops refusal None
 
--- the request in work passes the test
+-- there is a request in work, and it passes the test
 abbrev pub work_ends : (Asked Command → Bool) → Option (Asked Command) → Bool
 work_ends test None = false
-work_ends test (Some a) = test a
+work_ends test (Some request) = test request
 
--- the pending requests that pass a test end with a refusal, in order of ids
+-- the pending requests that pass the test end with this refusal, in order of their ids; the presses are dropped where the request in work is one of them
 abbrev pub ends : (Asked Command → Bool) → Refusal → Public → Said
-ends test r p = ending_entry (work_ends test (working p.requests)) (said (record p { requests = ended_where test (reply.No r) p.requests }) (map (λ a. out.Ended a.session a.id (reply.No r)) (pending_where test p.requests)))
+ends test refusal public = dropping_presses (work_ends test (working public.requests)) (said (record public { requests = ended_where test (replied.No refusal) public.requests }) (map (λ request. out.Ended request.session request.id (replied.No refusal)) (pending_where test public.requests)))
 
--- the request in work has its reply
+-- the request in work ends with this reply
 abbrev pub replies : Public → Asked Command → Reply → Said
-replies p a r = ending_entry true (says (record p { requests = finished r p.requests }) (out.Ended a.session a.id r))
+replies public request reply = dropping_presses true (says (record public { requests = finished reply public.requests }) (out.Ended request.session request.id reply))
 
--- service listeners hear of the accused key
+-- every service listener hears ILLEGAL_KEY_ACCESS of the accused key; without one nothing is said
 abbrev pub accuses : Public → Option (List ℕ) → Refusal → List Out
-accuses p None r = []
-accuses p (Some name) r = serves p.sessions (event.IllegalKeyAccess name r)
+accuses public None refusal = []
+accuses public (Some name) refusal = service_events public.sessions (events.IllegalKeyAccess name refusal)
 
--- the request in work is refused; service listeners hear of a key that it may not use
+-- the request in work ends with this refusal, and then service listeners hear of the key that it accuses
 abbrev pub refuses : Public → Asked Command → Refusal → Option (List ℕ) → Said
-refuses p a r accused = adding (accuses p accused r) (replies p a (reply.No r))
+refuses public request refusal accused = with_outs_after (accuses public accused refusal) (replies public request (replied.No refusal))
 
--- the request in work goes on, or is refused
+-- the request in work goes on with the value, or ends with the refusal
 abbrev pub decided : {A : Type 0} → Public → Asked Command → Decided A → (A → Said) → Said
-decided p a (Stops r accused) go = refuses p a r accused
-decided p a (Goes x) go = go x
+decided public request (Stops refusal accused) go_on = refuses public request refusal accused
+decided public request (Goes value) go_on = go_on value

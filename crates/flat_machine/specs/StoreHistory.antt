@@ -1,4 +1,4 @@
--- What bytes the store can have after a run.
+-- Which bytes the store can have after a run, as far as the words of the run tell.
 use Rattle.flat_machine.specs.KeyRows.{Change, KeyRows}
 use Rattle.flat_machine.specs.Machine.{Act, next, plan}
 use Rattle.flat_machine.specs.Power.{Loading, Nothing, Plan, Replacing}
@@ -7,66 +7,66 @@ use Rattle.flat_machine.specs.Works.{Setting}
 use Rattle.key_attributes.specs.declared.KeyRow.{KeyRow}
 use Rattle.pad_steps.specs.declared.steps.DiskWord.{DiskWord}
 use Rattle.std.specs.Prelude.{Bool, IsTrue, List, None, Option, Some, [], slice_get, take, ℕ, ◌∷◌, ◌≡◌}
-use Rattle.pad_steps.specs.declared.steps.DiskWord.TheVariants as word
+use Rattle.pad_steps.specs.declared.steps.DiskWord.TheVariants as words
 
--- a store's bytes: the rows that they show, a slot replaced, and what a fault in a replacement may leave
+-- what bytes mean to a store: the rows that they show, none where a slot is bad; the bytes with a slot replaced; and whether bytes can be left by a replacement that was struck
 pub record Layout : Type 0 where
   pub rows_of : List ℕ → Option KeyRows
   pub put : List ℕ → ℕ → Option KeyRow → List ℕ
   pub torn : List ℕ → ℕ → Option KeyRow → List ℕ → Bool
 
--- what is known of the bytes: these, or any that a change of these may leave
+-- what is known of the store's bytes: that they are these, or that a struck change left them from these
 pub data Known : Type 0 where
   These : List ℕ → Known
   TornFrom : List ℕ → Change → Known
 
 module _ (layout : Layout) where
-  -- the bytes after changes in order
+  -- the bytes after changes one by one
   abbrev pub put_all : List ℕ → List Change → List ℕ
-  put_all b [] = b
-  put_all b (c ∷ cs) = put_all (layout.put b c.slot c.row) cs
+  put_all bytes [] = bytes
+  put_all bytes (change ∷ rest) = put_all (layout.put bytes change.slot change.row) rest
 
-  -- the bytes that can be
-  abbrev pub Can : Known → List ℕ → Type 0
-  Can (These b) d = d ≡ b
-  Can (TornFrom b c) d = IsTrue (layout.torn b c.slot c.row d)
+  -- the bytes can be these
+  abbrev pub CanBe : Known → List ℕ → Type 0
+  CanBe (These bytes) read = read ≡ bytes
+  CanBe (TornFrom bytes change) read = IsTrue (layout.torn bytes change.slot change.row read)
 
-  -- a change was struck
+  -- these bytes before a change that was struck, if there was one
   abbrev pub struck_at : List ℕ → Option Change → Known
-  struck_at b None = These b
-  struck_at b (Some c) = TornFrom b c
+  struck_at bytes None = These bytes
+  struck_at bytes (Some change) = TornFrom bytes change
 
-  -- what is known after a replacing step
+  -- what is known after replacements with this word
   abbrev pub replaced : List Change → DiskWord → Known → Known
-  replaced todo word.Quiet (These b) = These b
-  replaced todo word.Done (These b) = These (put_all b todo)
-  replaced todo (word.Failed n) (These b) = struck_at (put_all b (take n todo)) (slice_get todo n)
-  replaced todo (word.Cut n) (These b) = struck_at (put_all b (take n todo)) (slice_get todo n)
-  replaced todo (word.Loaded rows) (These b) = These b
-  replaced todo (word.Bad slot) (These b) = These b
-  replaced todo w (TornFrom b c) = TornFrom b c
+  replaced todo words.Quiet (These bytes) = These bytes
+  replaced todo words.Done (These bytes) = These (put_all bytes todo)
+  replaced todo (words.Failed count) (These bytes) = struck_at (put_all bytes (take count todo)) (slice_get todo count)
+  replaced todo (words.Cut count) (These bytes) = struck_at (put_all bytes (take count todo)) (slice_get todo count)
+  replaced todo (words.Loaded rows) (These bytes) = These bytes
+  replaced todo (words.Bad slot) (These bytes) = These bytes
+  replaced todo word (TornFrom bytes change) = TornFrom bytes change
 
-  -- what is known after a step that loads nothing
+  -- what is known after a step that loaded nothing
   abbrev pub known_after : Plan → DiskWord → Known → Known
-  known_after Nothing w k = k
-  known_after Loading w k = k
-  known_after (Replacing todo) w k = replaced todo w k
+  known_after Nothing word known = known
+  known_after Loading word known = known
+  known_after (Replacing todo) word known = replaced todo word known
 
-  -- a loading shows the rows of bytes that can be, and these are the bytes from then on
+  -- a loading read bytes that can be and show the loaded rows, and from then on these are the bytes; other words change what is known
   abbrev pub HoldsStep : Plan → DiskWord → Known → (Known → Type 0) → Type 0
-  HoldsStep calls word.Quiet k rest = rest (known_after calls word.Quiet k)
-  HoldsStep calls word.Done k rest = rest (known_after calls word.Done k)
-  HoldsStep calls (word.Failed n) k rest = rest (known_after calls (word.Failed n) k)
-  HoldsStep calls (word.Cut n) k rest = rest (known_after calls (word.Cut n) k)
-  HoldsStep calls (word.Loaded rows) k rest = (e : List ℕ) × Can k e × (layout.rows_of e ≡ Some rows) × rest (These e)
-  HoldsStep calls (word.Bad slot) k rest = rest (known_after calls (word.Bad slot) k)
+  HoldsStep calls words.Quiet known rest = rest (known_after calls words.Quiet known)
+  HoldsStep calls words.Done known rest = rest (known_after calls words.Done known)
+  HoldsStep calls (words.Failed count) known rest = rest (known_after calls (words.Failed count) known)
+  HoldsStep calls (words.Cut count) known rest = rest (known_after calls (words.Cut count) known)
+  HoldsStep calls (words.Loaded rows) known rest = (read : List ℕ) × CanBe known read × (layout.rows_of read ≡ Some rows) × rest (These read)
+  HoldsStep calls (words.Bad slot) known rest = rest (known_after calls (words.Bad slot) known)
 
 module _ (layout : Layout) (set : Setting) where
-  -- the store can have bytes d after a run from a state in which this was known
+  -- the store can have these bytes after the run from a state in which this was known
   abbrev pub HoldsFrom : Flat → Known → List Act → List ℕ → Type 0
-  HoldsFrom h k [] d = Can layout k d
-  HoldsFrom h k (a ∷ acts) d = HoldsStep layout (plan set h.public a.step) a.word k (λ q. HoldsFrom (next set h a.step a.word).state q acts d)
+  HoldsFrom state known [] bytes = CanBe layout known bytes
+  HoldsFrom state known (act ∷ acts) bytes = HoldsStep layout (plan set state.public act.step) act.word known (λ after. HoldsFrom (next set state act.step act.word).state after acts bytes)
 
-  -- c being the bytes that the first loading of the run read
+  -- the store can have these bytes after the run, where the first loading of it read the bytes `first`
   abbrev pub Holds : List ℕ → List Act → List ℕ → Type 0
-  Holds c acts d = HoldsFrom opening (These c) acts d
+  Holds first acts bytes = HoldsFrom opening (These first) acts bytes

@@ -1,4 +1,4 @@
--- Runs that differ in digits of PINs alone.
+-- Twins: runs that differ in the digits of PINs alone, and release the same values.
 use Rattle.flat_machine.specs.Entries.{Entry, is_secret}
 use Rattle.flat_machine.specs.Machine.{Act, masked, next, releases_from}
 use Rattle.flat_machine.specs.State.{After, Flat, Public, Running, running}
@@ -9,43 +9,43 @@ use Rattle.std.specs.Prelude.{IsTrue, List, None, Option, Some, [], length, ◌�
 
 -- the same key, or two active digits of a PIN
 abbrev pub AlikeKeys : Entry → Key → Key → Type 0
-AlikeKeys e a b = (a ≡ b) ⊎ (IsTrue (is_secret e a) × IsTrue (is_secret e b))
+AlikeKeys entry first second = (first ≡ second) ⊎ (IsTrue (is_secret entry first) × IsTrue (is_secret entry second))
 
--- alike place by place
+-- as many presses, alike place by place
 abbrev pub AlikePresses : Entry → List Key → List Key → Type 0
-AlikePresses e [] [] = Unit {0}
-AlikePresses e (a ∷ xs) (b ∷ ys) = AlikeKeys e a b × AlikePresses e xs ys
-AlikePresses e [] (b ∷ ys) = ⊥
-AlikePresses e (a ∷ xs) [] = ⊥
+AlikePresses entry [] [] = Unit {0}
+AlikePresses entry (first ∷ firsts) (second ∷ seconds) = AlikeKeys entry first second × AlikePresses entry firsts seconds
+AlikePresses entry [] (second ∷ seconds) = ⊥
+AlikePresses entry (first ∷ firsts) [] = ⊥
 
--- alike where an entry runs, and equal where none does
+-- the presses are alike where an entry runs, and equal where none does
 abbrev pub AlikeEntries : Option Running → List Key → List Key → Type 0
-AlikeEntries None xs ys = ys ≡ xs
-AlikeEntries (Some w) xs ys = AlikePresses w.entry xs ys
+AlikeEntries None firsts seconds = seconds ≡ firsts
+AlikeEntries (Some current) firsts seconds = AlikePresses current.entry firsts seconds
 
--- two states that differ in digits of PINs alone
-pub record Alike (h g : Flat) : Type 0 where
-  pub public : g.public ≡ h.public
-  pub presses : AlikeEntries (running h.public) h.presses g.presses
-  pub held : length g.held ≡ length h.held
+-- two states that agree in everything but the digits of PINs: the held digits agree in number, the presses of a running PIN entry in number and place by place in all but the digit
+pub record Alike (first second : Flat) : Type 0 where
+  pub public : second.public ≡ first.public
+  pub presses : AlikeEntries (running first.public) first.presses second.presses
+  pub held : length second.held ≡ length first.held
 
--- alike states, and the same said
-pub record AlikeAfter (a b : After) : Type 0 where
-  pub state : Alike a.state b.state
-  pub outs : b.outs ≡ a.outs
+-- states that are alike, and the same said
+pub record AlikeAfter (first second : After) : Type 0 where
+  pub state : Alike first.state second.state
+  pub outs : second.outs ≡ first.outs
 
 -- the same step, or two presses that are masked
 abbrev pub TwinSteps : Public → Step → Step → Type 0
-TwinSteps p s t = (s ≡ t) ⊎ (IsTrue (masked p s) × IsTrue (masked p t))
+TwinSteps public first second = (first ≡ second) ⊎ (IsTrue (masked public first) × IsTrue (masked public second))
 
 module _ (set : Setting) where
-  -- two runs from a state that differ in masked presses alone
+  -- two runs from a state with the same words, whose steps differ in masked presses alone
   abbrev pub TwinsFrom : Flat → List Act → List Act → Type 0
-  TwinsFrom h [] [] = Unit {0}
-  TwinsFrom h (a ∷ xs) (b ∷ ys) = (b.word ≡ a.word) × TwinSteps h.public a.step b.step × TwinsFrom (next set h a.step a.word).state xs ys
-  TwinsFrom h [] (b ∷ ys) = ⊥
-  TwinsFrom h (a ∷ xs) [] = ⊥
+  TwinsFrom state [] [] = Unit {0}
+  TwinsFrom state (first ∷ firsts) (second ∷ seconds) = (second.word ≡ first.word) × TwinSteps state.public first.step second.step × TwinsFrom (next set state first.step first.word).state firsts seconds
+  TwinsFrom state [] (second ∷ seconds) = ⊥
+  TwinsFrom state (first ∷ firsts) [] = ⊥
 
-  -- and release the same values
+  -- and which release the same values
   abbrev pub Twins : Flat → List Act → List Act → Type 0
-  Twins start a b = TwinsFrom start a b × (releases_from set start b ≡ releases_from set start a)
+  Twins start first second = TwinsFrom start first second × (releases_from set start second ≡ releases_from set start first)

@@ -1,0 +1,227 @@
+-- What each kind of step does to the requests, the sessions, the line and the part buffer.
+use Rattle.flat_machine.proofs.RequestMoves.{Begun, Drawn, EndedWhere, Finished, Moves, RefusedAtBegin, Rows, Unmoved, ending_of, endings_where}
+use Rattle.flat_machine.specs.Ciphers.{Ciphers, check_value}
+use Rattle.flat_machine.specs.Decisions.{Decided, Goes, Stops}
+use Rattle.flat_machine.specs.Entries.{Entry, entry_of, entry_refusal, is_key_part}
+use Rattle.flat_machine.specs.EntrySteps.{begin_as, begin_entry, begin_with, first_of, next_begin}
+use Rattle.flat_machine.specs.FinishSteps.{crypt_now, delete_now, deletes, device_reply, finish_by, finish_pin, finish_with, import_now, imports, init_now, inits, maintain_now, maintains, pin_now, resets}
+use Rattle.flat_machine.specs.Imports.{is_part}
+use Rattle.flat_machine.specs.KeyRows.{Change, KeyRows, change_to, changed}
+use Rattle.flat_machine.specs.Power.{loads, powers_off, replaces}
+use Rattle.flat_machine.specs.RequestFacts.{Ending, ending_in, endings}
+use Rattle.flat_machine.specs.RequestSteps.{cancels, is_canceled, is_due, next_tick, submit_by}
+use Rattle.flat_machine.specs.Requests.{eligible, pending_where, same_session, working}
+use Rattle.flat_machine.specs.SessionSteps.{if_open}
+use Rattle.flat_machine.specs.Sessions.{execute_event, grants, grants_after, holder_of, holds, is_open, out_of_line, service_events}
+use Rattle.flat_machine.specs.State.{Public, Said, accuses, decided, device_refusal, ends, is_off, refuses, replies, says, unchanged, with_outs_before}
+use Rattle.flat_machine.specs.Works.{Readied, Setting, pin_answer}
+use Rattle.flat_machine.specs.declared.types.Asked.{Asked}
+use Rattle.flat_machine.specs.declared.types.Row.TheVariants.{Gone, InWork, Waiting}
+use Rattle.flat_machine.specs.declared.types.SessionRow.{SessionRow}
+use Rattle.key_attributes.specs.declared.KeyRow.{KeyRow}
+use Rattle.pad_steps.specs.declared.answers.Event.{Event}
+use Rattle.pad_steps.specs.declared.answers.Out.{Out}
+use Rattle.pad_steps.specs.declared.answers.Refusal.{Refusal}
+use Rattle.pad_steps.specs.declared.answers.Reply.{Reply}
+use Rattle.pad_steps.specs.declared.answers.Told.{Told}
+use Rattle.pad_steps.specs.declared.commands.Command.{Command}
+use Rattle.pad_steps.specs.declared.commands.ImportRequest.{ImportRequest}
+use Rattle.pad_steps.specs.declared.commands.PinRequest.{PinRequest}
+use Rattle.pad_steps.specs.declared.steps.DiskWord.{DiskWord}
+use Rattle.pad_words.specs.declared.numbers.Session.{Session}
+use Rattle.std.proofs.Common.{ap, append_assoc, inl, inr, sym, ◌∙◌}
+use Rattle.std.specs.List.{list_any}
+use Rattle.std.specs.Prelude.{Bool, List, None, Option, Some, [], cond, false, filter, if◌then◌else◌, length, map, not, refl, slice_get, take, true, ℕ, ◌&&◌, ◌++◌, ◌+◌, ◌==◌, ◌∷◌, ◌≡◌, ◌⊎◌}
+use Rattle.pad_steps.specs.declared.answers.Answer.TheVariants as answer
+use Rattle.pad_steps.specs.declared.answers.Event.TheVariants as event
+use Rattle.pad_steps.specs.declared.answers.Out.TheVariants as out
+use Rattle.pad_steps.specs.declared.answers.Refusal.TheVariants as refusal
+use Rattle.pad_steps.specs.declared.answers.Reply.TheVariants as reply
+use Rattle.pad_steps.specs.declared.answers.Told.TheVariants as told
+use Rattle.pad_steps.specs.declared.commands.Command.TheVariants as command
+use Rattle.pad_steps.specs.declared.steps.DiskWord.TheVariants as word
+
+-- ends that outs tell of
+
+pub endings-append : (xs ys : List Out) → endings (xs ++ ys) ≡ endings xs ++ endings ys
+endings-append [] ys = refl
+endings-append (o ∷ xs) ys = ap (λ (es : List Ending). ending_in o ++ es) (endings-append xs ys) ∙ sym (append_assoc (ending_in o) (endings xs) (endings ys))
+
+ended_if : (b : Bool) (a : Asked Command) (r : Reply) (xs : List (Asked Command)) (es : List Ending) → endings (map (λ (x : Asked Command). out.Ended x.session x.id r) xs) ≡ es
+    → endings (map (λ (x : Asked Command). out.Ended x.session x.id r) (if b then a ∷ xs else xs)) ≡ (if b then ending_of a r ∷ es else es)
+ended_if true a r xs es e = ap (λ (ys : List Ending). ending_of a r ∷ ys) e
+ended_if false a r xs es e = e
+
+pub endings-ended : (test : Asked Command → Bool) (r : Reply) (rows : Rows) → endings (map (λ (a : Asked Command). out.Ended a.session a.id r) (pending_where test rows)) ≡ endings_where test r rows
+endings-ended test r [] = refl
+endings-ended test r (Waiting a ∷ rows) = ended_if (test a) a r (pending_where test rows) (endings_where test r rows) (endings-ended test r rows)
+endings-ended test r (InWork a ∷ rows) = ended_if (test a) a r (pending_where test rows) (endings_where test r rows) (endings-ended test r rows)
+endings-ended test r (Gone id s q ∷ rows) = endings-ended test r rows
+
+event_if : (b : Bool) (s : Session) (e : Event) → endings (if b then out.Event s e ∷ [] else []) ≡ []
+event_if true s e = refl
+event_if false s e = refl
+
+pub endings-execute_event : (rows : List SessionRow) (s : Session) (e : Event) → endings (execute_event rows s e) ≡ []
+endings-execute_event rows s e = event_if (list_any (λ row. same_session row.session s && row.classes.execute) rows) s e
+
+endings-heard : (rows : List SessionRow) (e : Event) → endings (map (λ (row : SessionRow). out.Event row.session e) rows) ≡ []
+endings-heard [] e = refl
+endings-heard (row ∷ rows) e = endings-heard rows e
+
+pub endings-service_events : (rows : List SessionRow) (e : Event) → endings (service_events rows e) ≡ []
+endings-service_events rows e = endings-heard (filter (λ (row : SessionRow). row.classes.service) rows) e
+
+endings-accuses : (p : Public) (accused : Option (List ℕ)) (r : Refusal) → endings (accuses p accused r) ≡ []
+endings-accuses p None r = refl
+endings-accuses p (Some name) r = endings-service_events p.sessions (event.IllegalKeyAccess name r)
+
+pub endings-grants : (line : List Session) → endings (grants line) ≡ []
+endings-grants [] = refl
+endings-grants (s ∷ line) = refl
+
+none_if_ends : (b : Bool) (xs : List Out) → endings xs ≡ [] → endings (if b then xs else []) ≡ []
+none_if_ends true xs e = e
+none_if_ends false xs e = refl
+
+pub endings-grants_after : (s : Session) (line : List Session) → endings (grants_after s line) ≡ []
+endings-grants_after s line = none_if_ends (holds s line) (grants (out_of_line s line)) (endings-grants (out_of_line s line))
+
+-- a step that is none of a session's own: sessions and line stay, and the part buffer stays or is emptied
+pub record Walk (rows : Rows) (open_ones : List SessionRow) (line_before : List Session) (part_before : List ℕ) (effect : Said) : Type 0 where
+  pub moves : Moves rows effect.public.requests effect.outs
+  pub sessions : effect.public.sessions ≡ open_ones
+  pub line : effect.public.line ≡ line_before
+  pub part : (effect.public.part ≡ part_before) ⊎ (effect.public.part ≡ [])
+
+abbrev pub Walks : Public → Said → Type 0
+Walks p effect = Walk p.requests p.sessions p.line p.part effect
+
+part_if : (b : Bool) (part : List ℕ) → ((if b then [] else part) ≡ part) ⊎ ((if b then [] else part) ≡ [])
+part_if true part = inr refl
+part_if false part = inl refl
+
+module _ (p : Public) where
+  pub walk_if : (b : Bool) (x y : Said) → Walks p x → Walks p y → Walks p (cond b x y)
+  walk_if true x y one other = one
+  walk_if false x y one other = other
+
+  pub walk_told : (s : Session) (t : Told) → Walks p (says p (out.Told s t))
+  walk_told s t = record { moves = Unmoved refl refl; sessions = refl; line = refl; part = inl refl }
+
+  pub walk_nothing : Walks p (unchanged p)
+  walk_nothing = record { moves = Unmoved refl refl; sessions = refl; line = refl; part = inl refl }
+
+  pub walk_if_open : (s : Session) (x : Said) → Walks p x → Walks p (if_open p s x)
+  walk_if_open s x one = walk_if (is_open s p.sessions) x (says p (out.Told s (told.No refusal.NoSession))) one (walk_told s (told.No refusal.NoSession))
+
+  pub walk_ends : (test : Asked Command → Bool) (r : Refusal) → Walks p (ends test r p)
+  walk_ends test r = record { moves = EndedWhere test (reply.No r) refl (endings-ended test (reply.No r) p.requests); sessions = refl; line = refl; part = inl refl }
+
+  pub walk_submit : (o : Option Refusal) (s : Session) (limit : ℕ) (c : Command) → Walks p (submit_by o p s limit c)
+  walk_submit (Some r) s limit c = record { moves = Unmoved refl refl; sessions = refl; line = refl; part = inl refl }
+  walk_submit None s limit c = record { moves = Drawn (record { id = length p.requests + 1; session = s; submitted = p.clock; limit = limit; command = c }) refl refl refl; sessions = refl; line = refl; part = inl refl }
+
+  walk_before : (s : Session) (t : Told) (x : Said) → Walks p x → Walks p (with_outs_before (out.Told s t ∷ []) x)
+  walk_before s t x one = record { moves = moved one.moves; sessions = one.sessions; line = one.line; part = one.part }
+    where
+      moved : {after : Rows} {outs : List Out} → Moves p.requests after outs → Moves p.requests after (out.Told s t ∷ outs)
+      moved (Unmoved e q) = Unmoved e q
+      moved (Drawn a i e q) = Drawn a i e q
+      moved (EndedWhere test r e q) = EndedWhere test r e q
+      moved (Begun holder w e q) = Begun holder w e q
+      moved (RefusedAtBegin holder r a w l e q) = RefusedAtBegin holder r a w l e q
+      moved (Finished r a w e q) = Finished r a w e q
+
+  pub walk_cancel : (s : Session) (id : ℕ) (found : List (Asked Command)) → Walks p (cancels p s id found)
+  walk_cancel s id found = walk_if (not (id == 0) && (length found == 0)) _ _ (walk_told s (told.No refusal.InvalidReqId)) (walk_before s (told.Canceled (length found)) _ (walk_ends (is_canceled p s id) refusal.Canceled))
+
+  pub walk_tick : (n : ℕ) → Walks p (next_tick p n)
+  walk_tick n = record { moves = EndedWhere (is_due (p.clock + n)) (reply.No refusal.Timeout) refl (endings-ended (is_due (p.clock + n)) (reply.No refusal.Timeout) p.requests); sessions = refl; line = refl; part = inl refl }
+
+  -- Begin
+
+  walk_begin_entry : (a : Asked Command) (e : Entry) (r : Option Refusal) → working p.requests ≡ None → eligible (holder_of p.line) p.requests ≡ Some a → Walks p (begin_entry p a e r)
+  walk_begin_entry a e (Some r) w l = record { moves = RefusedAtBegin (holder_of p.line) (reply.No r) a w l refl refl; sessions = refl; line = refl; part = inl refl }
+  walk_begin_entry a e None w l = record { moves = Begun (holder_of p.line) w refl (endings-execute_event p.sessions a.session event.EnterData); sessions = refl; line = refl; part = part_if (is_key_part e.kind) p.part }
+
+  walk_begin_as : (a : Asked Command) (e : Option Entry) → working p.requests ≡ None → eligible (holder_of p.line) p.requests ≡ Some a → Walks p (begin_as p a e)
+  walk_begin_as a None w l = record { moves = Begun (holder_of p.line) w refl refl; sessions = refl; line = refl; part = inl refl }
+  walk_begin_as a (Some e) w l = walk_begin_entry a e (first_of (device_refusal p.device) (entry_refusal e)) w l
+
+  walk_begin_with : (o q : Option (Asked Command)) → working p.requests ≡ o → eligible (holder_of p.line) p.requests ≡ q → Walks p (begin_with p o q)
+  walk_begin_with (Some a) q w l = walk_nothing
+  walk_begin_with None None w l = walk_nothing
+  walk_begin_with None (Some a) w l = walk_begin_as a (entry_of a.command) w l
+
+  pub walk_begin : Walks p (next_begin p)
+  walk_begin = walk_if (is_off p.device) _ _ walk_nothing (walk_begin_with (working p.requests) (eligible (holder_of p.line) p.requests) refl refl)
+
+  -- power
+
+  pub walk_power : Walks p (powers_off p)
+  walk_power = record { moves = EndedWhere (λ a. true) (reply.No refusal.ConnectionLost) refl (endings-ended (λ a. true) (reply.No refusal.ConnectionLost) p.requests); sessions = refl; line = refl; part = inr refl }
+
+  pub walk_loads : (w : DiskWord) → Walks p (loads p w)
+  walk_loads word.Quiet = walk_nothing
+  walk_loads word.Done = walk_nothing
+  walk_loads (word.Failed n) = record { moves = Unmoved refl refl; sessions = refl; line = refl; part = inl refl }
+  walk_loads (word.Cut n) = walk_power
+  walk_loads (word.Loaded rows) = record { moves = Unmoved refl refl; sessions = refl; line = refl; part = inl refl }
+  walk_loads (word.Bad slot) = record { moves = Unmoved refl refl; sessions = refl; line = refl; part = inl refl }
+
+-- Finish, of the request in work
+
+module _ (p : Public) (a : Asked Command) (w : working p.requests ≡ Some a) where
+  walk_refuses : (r : Refusal) (accused : Option (List ℕ)) → Walks p (refuses p a r accused)
+  walk_refuses r accused = record { moves = Finished (reply.No r) a w refl (ap (λ (es : List Ending). ending_of a (reply.No r) ∷ es) (endings-accuses p accused r)); sessions = refl; line = refl; part = inl refl }
+
+  walk_replies : (r : Reply) → Walks p (replies p a r)
+  walk_replies r = record { moves = Finished r a w refl refl; sessions = refl; line = refl; part = inl refl }
+
+  walk_decided : {A : Type 0} → (d : Decided A) (go : A → Said) → ((x : A) → Walks p (go x)) → Walks p (decided p a d go)
+  walk_decided (Stops r accused) go k = walk_refuses r accused
+  walk_decided (Goes x) go k = k x
+
+  walk_replaces : (todo : List Change) (done : Public → Said) (d : DiskWord) → ((keys : KeyRows) → Walks p (done (record p { keys = keys }))) → Walks p (replaces p a todo done d)
+  walk_replaces todo done word.Quiet k = k (changed todo p.keys)
+  walk_replaces todo done word.Done k = k (changed todo p.keys)
+  walk_replaces todo done (word.Failed n) k = record { moves = Finished (reply.No refusal.HardwareError) a w refl refl; sessions = refl; line = refl; part = inl refl }
+  walk_replaces todo done (word.Cut n) k = walk_power (record p { keys = changed (take n todo) p.keys; doubt = slice_get todo n })
+  walk_replaces todo done (word.Loaded rows) k = k (changed todo p.keys)
+  walk_replaces todo done (word.Bad slot) k = k (changed todo p.keys)
+
+  walk_reset : (d : DiskWord) → Walks p (resets p a d)
+  walk_reset word.Quiet = record { moves = Finished (device_reply p.device) a w refl refl; sessions = refl; line = refl; part = inr refl }
+  walk_reset word.Done = record { moves = Finished (device_reply p.device) a w refl refl; sessions = refl; line = refl; part = inr refl }
+  walk_reset (word.Failed n) = record { moves = Finished (reply.No refusal.HardwareError) a w refl refl; sessions = refl; line = refl; part = inr refl }
+  walk_reset (word.Cut n) = walk_power p
+  walk_reset (word.Loaded rows) = record { moves = Finished (reply.Ok answer.Done) a w refl refl; sessions = refl; line = refl; part = inr refl }
+  walk_reset (word.Bad slot) = record { moves = Finished (reply.No (refusal.BadStore slot)) a w refl refl; sessions = refl; line = refl; part = inr refl }
+
+  walk_pin : (set : Setting) (held : List ℕ) (r : PinRequest) (d : Decided Readied) → Walks p (finish_pin set p held a r d)
+  walk_pin set held r (Stops why accused) = walk_refuses why accused
+  walk_pin set held r (Goes y) = record { moves = Finished (reply.Ok (pin_answer set p.drawn r held y)) a w refl refl; sessions = refl; line = refl; part = inl refl }
+
+  walk_imports : (cipher : Ciphers) (r : ImportRequest) (row : KeyRow) (keys : KeyRows) → Walks p (imports cipher a r row (record p { keys = keys }))
+  walk_imports cipher r row keys = record { moves = Finished (reply.Ok (answer.Key (check_value cipher r.verify row.value))) a w refl refl; sessions = refl; line = refl; part = part_if (is_part r.source) p.part }
+
+  walk_inits : (keys : KeyRows) → Walks p (inits a (record p { keys = keys }))
+  walk_inits keys = record { moves = Finished (reply.Ok answer.Done) a w refl (ap (λ (es : List Ending). ending_of a (reply.Ok answer.Done) ∷ es) (endings-service_events p.sessions event.Initialized)); sessions = refl; line = refl; part = inr refl }
+
+  walk_finish_by : (set : Setting) (held : List ℕ) (c : Command) (d : DiskWord) → Walks p (finish_by set p held a c d)
+  walk_finish_by set held (command.GetPin rules) d = walk_nothing p
+  walk_finish_by set held (command.GetData rules) d = walk_nothing p
+  walk_finish_by set held (command.SecureKeyEntry rules) d = walk_nothing p
+  walk_finish_by set held (command.MaintainPin on) d = walk_decided (maintain_now p on) (maintains p a) (λ x. record { moves = Finished (reply.Ok answer.Done) a w refl refl; sessions = refl; line = refl; part = inl refl })
+  walk_finish_by set held (command.Pin r) d = walk_pin set held r (pin_now set.works p (length held) r)
+  walk_finish_by set held (command.Crypt r) d = walk_decided (crypt_now set.cipher p r) _ (λ x. walk_replies (reply.Ok x))
+  walk_finish_by set held (command.ImportKey r) d = walk_decided (import_now set.cipher p r) _ (λ new. walk_replaces (change_to new ∷ []) (imports set.cipher a r new.1) d (walk_imports set.cipher r new.1))
+  walk_finish_by set held (command.DeleteKey name) d = walk_decided (delete_now p name) _ (λ c. walk_replaces (c ∷ []) (deletes a) d (λ keys. record { moves = Finished (reply.Ok answer.Done) a w refl refl; sessions = refl; line = refl; part = inl refl }))
+  walk_finish_by set held command.Init d = walk_decided (init_now p) _ (λ todo. walk_replaces todo (inits a) d walk_inits)
+  walk_finish_by set held command.Reset d = walk_reset d
+  walk_finish_by set held command.RsaImport d = walk_replies (reply.No refusal.UnsuppCommand)
+
+pub walk_finish : (set : Setting) (p : Public) (held : List ℕ) (o : Option (Asked Command)) (d : DiskWord) → working p.requests ≡ o → Walks p (finish_with set p held o d)
+walk_finish set p held None d w = walk_nothing p
+walk_finish set p held (Some a) d w = walk_finish_by p a w set held a.command d

@@ -1,0 +1,4 @@
+pub mod BookLemmas
+pub mod PressLemmas
+pub mod QueueLemmas
+pub mod WorkLemmas

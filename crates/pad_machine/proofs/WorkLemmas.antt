@@ -1,0 +1,185 @@
+-- What a step leaves to do, and how many ids it draws.
+use Rattle.std.proofs.Common.{ap, arith, inl, inr, length-append, subst, sym, ◌∙◌}
+use Rattle.std.specs.Prelude.{Bool, IsTrue, List, None, Option, Some, [], false, if◌then◌else◌, length, nat_le, refl, suc, true, ℕ, ◌++◌, ◌+◌, ◌<◌, ◌∷◌, ◌≡◌, ◌≤◌, ◌⊎◌}
+use Rattle.flat_machine.specs.Ciphers.{Ciphers}
+use Rattle.flat_machine.specs.Decisions.{Goes}
+use Rattle.flat_machine.specs.Entries.{Entry, active_seen, after_value, digit_in, entry_of, entry_refusal}
+use Rattle.flat_machine.specs.EntrySteps.{begin_as, begin_entry, begin_with, entry_answer, first_of, next_begin}
+use Rattle.flat_machine.specs.Kept.{Kept, KeptAfter, kept_next, kept_press_in, kept_seen}
+use Rattle.flat_machine.specs.Machine.{due_finish, due_in, next_work}
+use Rattle.flat_machine.specs.RequestSteps.{submit_by, submit_refusal}
+use Rattle.flat_machine.specs.Requests.{begun, begun_as, eligible, finished, may_begin, refused_at_begin, working}
+use Rattle.flat_machine.specs.Sessions.{holder_of, is_open}
+use Rattle.flat_machine.specs.State.{Public, Running, Said, device_refusal, is_off, running, unchanged}
+use Rattle.flat_machine.specs.Works.{Setting}
+use Rattle.flat_machine.specs.declared.types.Asked.{Asked}
+use Rattle.flat_machine.specs.declared.types.Row.{Row}
+use Rattle.flat_machine.specs.declared.types.Row.TheVariants.{Gone, InWork, Waiting}
+use Rattle.flat_machine.specs.declared.types.Seen.{Seen}
+use Rattle.flat_machine.specs.declared.types.Seen.TheVariants.{Ended, Ignored, Took}
+use Rattle.key_attributes.specs.declared.Use.TheVariants.{Crypt}
+use Rattle.key_source.specs.Keys.{has_key}
+use Rattle.key_source.specs.declared.Key.{Key}
+use Rattle.pad_machine.specs.Stands.{draws, work_left}
+use Rattle.pad_steps.specs.Formed.{is_well_formed}
+use Rattle.pad_steps.specs.declared.answers.Answer.TheVariants.{Done}
+use Rattle.pad_steps.specs.declared.answers.Refusal.{Refusal}
+use Rattle.pad_steps.specs.declared.answers.Reply.{Reply}
+use Rattle.pad_steps.specs.declared.answers.Reply.TheVariants as reply
+use Rattle.pad_steps.specs.declared.commands.Command.{Command}
+use Rattle.pad_steps.specs.declared.steps.DiskWord.TheVariants.{Quiet}
+use Rattle.pad_steps.specs.declared.steps.Step.{Step}
+use Rattle.pad_steps.specs.declared.steps.Step.TheVariants as step
+use Rattle.pad_words.specs.declared.numbers.Session.{Session}
+
+-- a setting, for what is the same in all
+pub some_setting : Setting
+some_setting = record {
+  cipher = record { tdea = λ key block. block; tdea_back = λ key block. block };
+  works = record {
+    admit = λ request. None;
+    wants = λ request. record { first = []; second = None; wanted = Crypt };
+    ready = λ request count first second. Goes 0;
+    result = λ request digits first second fill. Done;
+  };
+  fill_word = λ place. 0;
+}
+
+-- a request that comes into work, or is refused as it does, leaves less to do
+less-if : (b : Bool) (waiting : Asked Command) (new : Row Command Reply) (rows others : List (Row Command Reply)) → work_left (new ∷ []) ≤ 1 → (b ≡ false → work_left others < work_left rows) → work_left (if b then new ∷ rows else Waiting waiting ∷ others) < 2 + work_left rows
+less-if true waiting (Waiting asked) rows others small less = absurd (omega arith)
+less-if true waiting (InWork asked) rows others small less = omega arith
+less-if true waiting (Gone id session answer) rows others small less = omega arith
+less-if false waiting new rows others small less = let fewer : work_left others < work_left rows = less refl in omega arith
+
+found-not : (b : Bool) (asked found : Asked Command) (rest : Option (Asked Command)) → (if b then Some asked else rest) ≡ Some found → b ≡ false → rest ≡ Some found
+found-not true asked found rest is differs = cc
+found-not false asked found rest is differs = is
+
+pub work_left-begun : (holder : Option Session) (rows : List (Row Command Reply)) (found : Asked Command) → eligible holder rows ≡ Some found → work_left (begun holder rows) < work_left rows
+work_left-begun holder [] found is = cc
+work_left-begun holder (Waiting asked ∷ rows) found is = less-if (may_begin holder asked) asked (InWork asked) rows (begun holder rows) (omega arith) (λ differs. work_left-begun holder rows found (found-not (may_begin holder asked) asked found (eligible holder rows) is differs))
+work_left-begun holder (InWork asked ∷ rows) found is = let fewer : work_left (begun holder rows) < work_left rows = work_left-begun holder rows found is in omega arith
+work_left-begun holder (Gone id session answer ∷ rows) found is = work_left-begun holder rows found is
+
+work_left-refused : (answer : Reply) (holder : Option Session) (rows : List (Row Command Reply)) (found : Asked Command) → eligible holder rows ≡ Some found → work_left (refused_at_begin answer holder rows) < work_left rows
+work_left-refused answer holder [] found is = cc
+work_left-refused answer holder (Waiting asked ∷ rows) found is = less-if (may_begin holder asked) asked (Gone asked.id asked.session answer) rows (refused_at_begin answer holder rows) (omega arith) (λ differs. work_left-refused answer holder rows found (found-not (may_begin holder asked) asked found (eligible holder rows) is differs))
+work_left-refused answer holder (InWork asked ∷ rows) found is = let fewer : work_left (refused_at_begin answer holder rows) < work_left rows = work_left-refused answer holder rows found is in omega arith
+work_left-refused answer holder (Gone id session old ∷ rows) found is = work_left-refused answer holder rows found is
+
+less-entry : (public : Public) (asked : Asked Command) (entry : Entry) (refusal : Option Refusal) → eligible (holder_of public.line) public.requests ≡ Some asked → work_left (begin_entry public asked entry refusal).public.requests < work_left public.requests
+less-entry public asked entry None is = work_left-begun (holder_of public.line) public.requests asked is
+less-entry public asked entry (Some refusal) is = work_left-refused (reply.No refusal) (holder_of public.line) public.requests asked is
+
+less-as : (public : Public) (asked : Asked Command) (entry : Option Entry) → eligible (holder_of public.line) public.requests ≡ Some asked → work_left (begin_as public asked entry).public.requests < work_left public.requests
+less-as public asked None is = work_left-begun (holder_of public.line) public.requests asked is
+less-as public asked (Some entry) is = less-entry public asked entry (first_of (device_refusal public.device) (entry_refusal entry)) is
+
+not-begin : (entry : Option Entry) → due_finish entry ≡ Some step.Begin → ⊥
+not-begin None is = cc
+not-begin (Some entry) is = cc
+
+less-with : (public : Public) (work waiting : Option (Asked Command)) → eligible (holder_of public.line) public.requests ≡ waiting → due_in work waiting ≡ Some step.Begin → work_left (begin_with public work waiting).public.requests < work_left public.requests
+less-with public (Some asked) waiting found due = absurd (not-begin (entry_of asked.command) due)
+less-with public None None found due = cc
+less-with public None (Some asked) found due = less-as public asked (entry_of asked.command) found
+
+less-begin : (public : Public) (off : Bool) → off ≡ false → next_work public ≡ Some step.Begin → work_left (if off then unchanged public else begin_with public (working public.requests) (eligible (holder_of public.line) public.requests)).public.requests < work_left public.requests
+less-begin public true on due = cc
+less-begin public false on due = less-with public (working public.requests) (eligible (holder_of public.line) public.requests) refl due
+
+-- the step that is due is Finish or Begin
+due-is : (found : Step) (entry : Option Entry) → due_finish entry ≡ Some found → found ≡ step.Finish
+due-is found None is = cc
+due-is found (Some entry) is = cc
+
+work-in : (found : Step) (work waiting : Option (Asked Command)) → due_in work waiting ≡ Some found → (found ≡ step.Finish) ⊎ (found ≡ step.Begin)
+work-in found (Some asked) waiting is = inl (due-is found (entry_of asked.command) is)
+work-in found None None is = cc
+work-in found None (Some asked) is = inr (begin-is found is)
+  where
+    begin-is : (found : Step) → Some step.Begin ≡ Some found → found ≡ step.Begin
+    begin-is found is = cc
+
+not-finish : IsTrue (is_well_formed step.Finish) → ⊥
+not-finish formed = cc
+
+less-work : (kept : Kept) (s : Step) → (s ≡ step.Finish) ⊎ (s ≡ step.Begin) → IsTrue (is_well_formed s) → is_off kept.public.device ≡ false → next_work kept.public ≡ Some s → work_left (kept_next some_setting kept s Quiet).state.public.requests < work_left kept.public.requests
+less-work kept s (inl is) formed on due = absurd (not-finish (subst (λ (t : Step). IsTrue (is_well_formed t)) is formed))
+less-work kept s (inr is) formed on due = rw is (less-begin kept.public (is_off kept.public.device) on (due ∙ ap (λ (t : Step). Some t) is))
+
+-- a step that was due leaves less to do, while the device is on
+pub less-next : (kept : Kept) (s : Step) → IsTrue (is_well_formed s) → is_off kept.public.device ≡ false → next_work kept.public ≡ Some s → work_left (kept_next some_setting kept s Quiet).state.public.requests < work_left kept.public.requests
+less-next kept s formed on due = less-work kept s (work-in s (working kept.public.requests) (eligible (holder_of kept.public.line) kept.public.requests) due) formed on due
+
+-- how many requests there are
+length-begun_as : (new : Asked Command → Row Command Reply) (holder : Option Session) (rows : List (Row Command Reply)) → length (begun_as new holder rows) ≡ length rows
+length-begun_as new holder [] = refl
+length-begun_as new holder (Waiting asked ∷ rows) = length-if (may_begin holder asked) (new asked) asked rows (begun_as new holder rows) (length-begun_as new holder rows)
+  where
+    length-if : (b : Bool) (row : Row Command Reply) (asked : Asked Command) (rows others : List (Row Command Reply)) → length others ≡ length rows → length (if b then row ∷ rows else Waiting asked ∷ others) ≡ suc (length rows)
+    length-if true row asked rows others same = refl
+    length-if false row asked rows others same = ap (λ (n : ℕ). suc n) same
+length-begun_as new holder (InWork asked ∷ rows) = ap (λ (n : ℕ). suc n) (length-begun_as new holder rows)
+length-begun_as new holder (Gone id session answer ∷ rows) = ap (λ (n : ℕ). suc n) (length-begun_as new holder rows)
+
+length-finished : (answer : Reply) (rows : List (Row Command Reply)) → length (finished answer rows) ≡ length rows
+length-finished answer [] = refl
+length-finished answer (Waiting asked ∷ rows) = ap (λ (n : ℕ). suc n) (length-finished answer rows)
+length-finished answer (InWork asked ∷ rows) = refl
+length-finished answer (Gone id session old ∷ rows) = ap (λ (n : ℕ). suc n) (length-finished answer rows)
+
+count-if : (b : Bool) (x y : Said) (n : ℕ) → length x.public.requests ≡ n → length y.public.requests ≡ n → length (if b then x else y).public.requests ≡ n
+count-if true x y n same other = same
+count-if false x y n same other = other
+
+count-submit : (public : Public) (session : Session) (limit : ℕ) (command : Command) (refusal : Option Refusal) → length (submit_by refusal public session limit command).public.requests ≤ length public.requests + 1
+count-submit public session limit command (Some refusal) = omega arith
+count-submit public session limit command None = rw (length-append public.requests _) (omega arith)
+
+count-entry : (public : Public) (asked : Asked Command) (entry : Entry) (refusal : Option Refusal) → length (begin_entry public asked entry refusal).public.requests ≡ length public.requests
+count-entry public asked entry None = length-begun_as (λ a. InWork a) (holder_of public.line) public.requests
+count-entry public asked entry (Some refusal) = length-begun_as (λ a. Gone a.id a.session (reply.No refusal)) (holder_of public.line) public.requests
+
+count-as : (public : Public) (asked : Asked Command) (entry : Option Entry) → length (begin_as public asked entry).public.requests ≡ length public.requests
+count-as public asked None = length-begun_as (λ a. InWork a) (holder_of public.line) public.requests
+count-as public asked (Some entry) = count-entry public asked entry (first_of (device_refusal public.device) (entry_refusal entry))
+
+count-with : (public : Public) (work waiting : Option (Asked Command)) → length (begin_with public work waiting).public.requests ≡ length public.requests
+count-with public (Some asked) waiting = refl
+count-with public None None = refl
+count-with public None (Some asked) = count-as public asked (entry_of asked.command)
+
+count-seen : (kept : Kept) (running : Running) (digits : List ℕ) (seen : Seen) → length (kept_seen some_setting kept running digits seen).state.public.requests ≡ length kept.public.requests
+count-seen kept running digits Ignored = refl
+count-seen kept running digits (Took shown) = refl
+count-seen kept running digits (Ended shown completion) = length-finished _ kept.public.requests
+
+count-active : (b : Bool) (kept : Kept) (x : KeptAfter) → length x.state.public.requests ≡ length kept.public.requests → length (if b then x else record { state = kept; outs = [] }).state.public.requests ≡ length kept.public.requests
+count-active true kept x same = same
+count-active false kept x same = refl
+
+count-press : (kept : Kept) (found : Option Running) (key : Key) → length (kept_press_in some_setting kept found key).state.public.requests ≡ length kept.public.requests
+count-press kept None key = refl
+count-press kept (Some running) key = count-active (has_key running.entry.active key) kept _ (count-seen kept running _ _)
+
+le-of : {few many : ℕ} → few ≡ many → few ≤ many + 0
+le-of same = omega (arith, same)
+
+-- a step of a line draws one id at most
+pub drawn-next : (kept : Kept) (s : Step) → IsTrue (is_well_formed s) → length (kept_next some_setting kept s Quiet).state.public.requests ≤ length kept.public.requests + draws s
+drawn-next kept (step.Open session) formed = le-of (count-if (is_open session kept.public.sessions) _ _ (length kept.public.requests) refl refl)
+drawn-next kept (step.Close session) formed = cc
+drawn-next kept (step.Listen session classes) formed = le-of (count-if (is_open session kept.public.sessions) _ _ (length kept.public.requests) refl refl)
+drawn-next kept (step.Lock session) formed = cc
+drawn-next kept (step.Unlock session) formed = cc
+drawn-next kept (step.Submit session limit command) formed = count-submit kept.public session limit command (submit_refusal some_setting.works kept.public session command)
+drawn-next kept (step.Cancel session id) formed = cc
+drawn-next kept step.Begin formed = le-of (count-if (is_off kept.public.device) (unchanged kept.public) (begin_with kept.public (working kept.public.requests) (eligible (holder_of kept.public.line) kept.public.requests)) (length kept.public.requests) refl (count-with kept.public (working kept.public.requests) (eligible (holder_of kept.public.line) kept.public.requests)))
+drawn-next kept step.Finish formed = cc
+drawn-next kept (step.Press key) formed = le-of (count-press kept (running kept.public) key)
+drawn-next kept (step.Tick ticks) formed = cc
+drawn-next kept (step.Ask session question) formed = cc
+drawn-next kept step.Off formed = cc
+drawn-next kept step.Boot formed = cc

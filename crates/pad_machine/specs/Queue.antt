@@ -1,0 +1,42 @@
+-- What the code keeps of the requests of a run.
+use Rattle.flat_machine.specs.Requests.{same_session}
+use Rattle.pad_words.specs.declared.numbers.Session.{Session}
+use Rattle.flat_machine.specs.Sound.{pending_pass}
+use Rattle.flat_machine.specs.declared.types.Asked.{Asked}
+use Rattle.flat_machine.specs.declared.types.Row.{Row}
+use Rattle.flat_machine.specs.declared.types.Row.TheVariants.{Gone, InWork, Waiting}
+use Rattle.pad_steps.specs.Formed.{is_well_formed_command}
+use Rattle.pad_steps.specs.declared.answers.Reply.{Reply}
+use Rattle.pad_steps.specs.declared.commands.Command.{Command}
+use Rattle.std.specs.List.{list_all}
+use Rattle.std.specs.Prelude.{Bool, IsTrue, List, false, length, take, true, ℕ, ◌+◌, ◌*◌, ◌≡◌, ◌≤◌, [], ◌∷◌, suc}
+
+-- the request has its reply
+abbrev pub is_gone : {C R : Type 0} → Row C R → Bool
+is_gone (Waiting asked) = false
+is_gone (InWork asked) = false
+is_gone (Gone id session reply) = true
+
+-- the request is pending and of the session
+abbrev pub is_pending_row : {C R : Type 0} → Session → Row C R → Bool
+is_pending_row session (Waiting asked) = same_session asked.session session
+is_pending_row session (InWork asked) = same_session asked.session session
+is_pending_row session (Gone id owner reply) = false
+
+-- the row, in work where it waited
+abbrev pub begun_row : {C R : Type 0} → Row C R → Row C R
+begun_row (Waiting asked) = InWork asked
+begun_row (InWork asked) = InWork asked
+begun_row (Gone id session reply) = Gone id session reply
+
+-- the row, gone with a reply where it was in work
+abbrev pub finished_row : {C R : Type 0} → R → Row C R → Row C R
+finished_row reply (Waiting asked) = Waiting asked
+finished_row reply (InWork asked) = Gone asked.id asked.session reply
+finished_row reply (Gone id session old) = Gone id session old
+
+-- a place before which all requests are gone, and pending requests have commands that a line spells
+pub record IsScanStart (place : ℕ) (rows : List (Row Command Reply)) : Type 0 where
+  pub within : place ≤ length rows
+  pub gone : IsTrue (list_all is_gone (take place rows))
+  pub built : IsTrue (pending_pass is_well_formed_command rows)
