@@ -27,7 +27,7 @@ unfoldable pub loaded_text : ℕ → Option Fate → List ℕ
 loaded_text count None = []
 loaded_text count (Some fate) = codes " / loaded " ++ decimal count ++ codes " " ++ fate_text fate
 
--- the word behind a slash; nothing where no device call was made
+-- the word behind a slash, or nothing where no device call was made
 unfoldable pub disk_word_text : DiskWord → Option Fate → List ℕ
 disk_word_text word.Quiet fate = []
 disk_word_text word.Done fate = codes " / done"

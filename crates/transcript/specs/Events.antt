@@ -12,6 +12,7 @@ unfoldable pub shown_key_text : Shown → List ℕ
 shown_key_text shown.Masked = codes "*"
 shown_key_text (shown.Plain key) = key_text key
 
+-- an event and what it tells
 unfoldable pub event_text : Event → List ℕ
 event_text event.EnterData = codes "ENTERDATA"
 event_text (event.Key key) = codes "KEY " ++ shown_key_text key

@@ -21,6 +21,8 @@ unfoldable pub holder_text : Option Session → List ℕ
 holder_text None = codes "0"
 holder_text (Some s) = decimal s.number
 
+-- the state, the number of keys, the holder of the lock, whether an entry runs and a PIN is held, and the
+-- number of the session's pending requests
 unfoldable pub status_text : StatusView → List ℕ
 status_text v = codes "status " ++ state_text v.state ++ codes " keys " ++ decimal v.keys ++ codes " holder " ++ holder_text v.holder ++ codes " entry " ++ yes_no_text v.entry ++ codes " pin " ++ yes_no_text v.pin ++ codes " pending " ++ decimal v.pending
 
@@ -37,13 +39,15 @@ key_check_text (Some check) = encode_upper check
 unfoldable pub key_view_text : KeyView → List ℕ
 key_view_text v = codes "key " ++ v.name ++ codes " " ++ uses_text v.uses ++ codes " " ++ decimal v.length ++ codes " " ++ key_check_text v.check
 
+-- a name behind a space
 unfoldable pub spaced_name : List ℕ → List ℕ
 spaced_name name = codes " " ++ name
 
--- how many names there are, and the names, each behind a space
+-- how many names there are, and the names in order
 unfoldable pub names_text : List (List ℕ) → List ℕ
 names_text names = codes "names " ++ decimal (length names) ++ flat_map spaced_name names
 
+-- what became of a step, or the answer to a question
 unfoldable pub told_text : Told → List ℕ
 told_text told.Opened = codes "open"
 told_text told.Closed = codes "closed"

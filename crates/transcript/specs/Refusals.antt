@@ -4,7 +4,8 @@ use Rattle.std.specs.Fmt.{decimal}
 use Rattle.pad_steps.specs.declared.answers.Refusal.{Refusal}
 use Rattle.pad_steps.specs.declared.answers.Refusal.TheVariants as refusal
 
--- the holder of the lock, the bound of the queue, the slot that reads as bad and the name of the key with the same value follow
+-- the refusal's name, and behind it the holder of the lock, the number of pending requests, the slot that reads
+-- as bad, or the name of the key with the same value
 unfoldable pub refusal_text : Refusal → List ℕ
 refusal_text refusal.NoSession = codes "NOSESSION"
 refusal_text refusal.AlreadyOpen = codes "ALREADYOPEN"

@@ -31,6 +31,7 @@ answer_text (answer.Crypt bytes) = codes "OK crypt " ++ encode_upper bytes
 answer_text (answer.Mac block) = codes "OK mac " ++ encode_upper block.0
 answer_text (answer.Key check) = codes "OK key " ++ check_text check
 
+-- what a command ended with
 unfoldable pub reply_text : Reply → List ℕ
 reply_text (reply.Ok a) = answer_text a
 reply_text (reply.No r) = refusal_text r

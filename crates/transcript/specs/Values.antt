@@ -3,6 +3,7 @@ use Rattle.std.specs.Prelude.{Bool, List, None, Option, Some, codes, if◌then�
 use Rattle.hex.specs.Hex.{encode_upper}
 use Rattle.script_lang.specs.Words.{hex_digit}
 
+-- a flag
 unfoldable pub yes_no_text : Bool → List ℕ
 yes_no_text b = if b then codes "yes" else codes "no"
 

@@ -12,3 +12,5 @@ mod values;
 
 pub use printing::{PrintFault, print_step};
 
+#[cfg(test)]
+mod tests;

@@ -40,6 +40,7 @@ pub fn print_step<K: Sink>(
         with_more (counted_given K.given sink.old) (line_text (line_of_step step.now masked word.now fate outs.now.items))) }
     ensures err { OnErr result (GivesFront (counted_given K.given sink.old) (counted_given K.given sink.new)
         (line_text (line_of_step step.now masked word.now fate outs.now.items))) }
+    ensures memory { result ≡ Err PrintFault.NoMemory → sink.new ≡ sink.old }
     ensures later { counted_faults K.faults sink.old ≤ counted_faults K.faults sink.new }
     ensures cause { result ≡ Err PrintFault.Failed → Rose (counted_faults K.faults sink.old) (counted_faults K.faults sink.new) }
 {

@@ -59,11 +59,7 @@ fn put_uses(alloc: Global, uses: u16, text: &mut Octets) -> Result<(), NoMemory>
 }
 
 #[tactic(auto, unfolding(crate::specs::Questions::key_check_text))]
-fn put_key_check(
-    alloc: Global,
-    check: &Option<[u8; 3]>,
-    text: &mut Octets,
-) -> Result<(), NoMemory>
+fn put_key_check(alloc: Global, check: &Option<[u8; 3]>, text: &mut Octets) -> Result<(), NoMemory>
     ensures { OnOk result (text.new ≡ text.old ++ key_check_text check.now) }
 {
     match check {

@@ -36,7 +36,11 @@ fn hex_digit(value: u8) -> u8
     requires { value < 16 }
     ensures { result ≡ hex_digit value }
 {
-    if value < 10 { b'0' + value } else { b'A' + (value - 10) }
+    if value < 10 {
+        b'0' + value
+    } else {
+        b'A' + (value - 10)
+    }
 }
 
 #[tactic(auto, unfolding(crate::specs::Values::digits_text))]
