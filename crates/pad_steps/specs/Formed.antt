@@ -9,7 +9,7 @@ use Rattle.pad_steps.specs.declared.steps.Classes.{Classes}
 use Rattle.pad_steps.specs.declared.steps.Step.{Step}
 use Rattle.pad_steps.specs.declared.steps.Step.TheVariants as step
 use Rattle.pad_words.specs.declared.numbers.Session.{Session}
-use Rattle.std.specs.Prelude.{Bool, false, not, true, ℕ, ◌&&◌, ◌==◌, ◌||◌}
+use Rattle.std.specs.Prelude.{Bool, false, not, true, ◌&&◌, ◌==◌, ◌||◌}
 
 -- the session that a line may name: 1 alone
 abbrev pub is_built_session : Session → Bool
