@@ -4,6 +4,8 @@
 mod cutting;
 mod reading;
 mod running;
+#[cfg(test)]
+mod tests;
 mod top;
 
 use crate::top::run_pinpad;

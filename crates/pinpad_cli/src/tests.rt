@@ -1,0 +1,510 @@
+//! Whole runs, and what no clause says: that memory suffices.
+use crate::top::run_pinpad;
+use disk_core::{Calls, Counted, MemSink, MemSource, Source};
+use pad_steps::{Command, DiskWord, ImportRequest, ImportSource, Out, Outs, Told, Verify, Words};
+use pad_words::{KeyName, Octets, Session};
+use std::alloc::Global;
+use std::process::Abort;
+use std::test::Fail;
+
+/// A run: the words, the script, which calls of the source and of the sink fail, and how many bytes the sink takes.
+/// How it is to end: the status, the number of lines, the number of steps taken, whether the source was read to its
+/// end, and what was printed.
+#[derive(Clone, Copy)]
+struct Case<'s, 'p> {
+    name: &'static str,
+    words: &'static [&'static str],
+    script: &'s [u8],
+    source_fails: &'static [u32],
+    sink_fails: &'static [u32],
+    room: usize,
+    status: u8,
+    line: u32,
+    steps: usize,
+    read: bool,
+    printed: &'p [u8],
+}
+
+/// A script of no lines, replayed with no failing call.
+const WHOLE: Case<'static, 'static> = Case {
+    name: "no lines",
+    words: &["replay"],
+    script: b"",
+    source_fails: &[],
+    sink_fails: &[],
+    room: 8192,
+    status: 0,
+    line: 0,
+    steps: 0,
+    read: true,
+    printed: b"",
+};
+
+/// A script outside the grammar.
+const OUTSIDE: Case<'static, 'static> = Case { status: 1, ..WHOLE };
+
+/// A script of one line, run with words that are no form.
+const USAGE: Case<'static, 'static> = Case {
+    script: b"auto\n",
+    status: 2,
+    read: false,
+    ..WHOLE
+};
+
+const ENTRY_1234: &[u8] = b"\
+open 1
+listen 1 execute
+submit 1 0 getpin 4 16 hold 000F03FF00000000 0003000000000000
+auto
+press 1
+press 2
+press 3
+press 4
+press enter
+";
+
+const ENTRY_9876: &[u8] = b"\
+open 1
+listen 1 execute
+submit 1 0 getpin 4 16 hold 000F03FF00000000 0003000000000000
+auto
+press 9
+press 8
+press 7
+press 6
+press enter
+";
+
+// Of both entries, since no digit is printed.
+const ENTRY_PRINTED: &[u8] = b"\
+> open 1
+< 1 told open
+> listen 1 execute
+< 1 told listening execute
+> submit 1 0 getpin 4 16 hold 000F03FF00000000 0003000000000000
+< 1 request 1
+> begin
+< 1 event ENTERDATA
+> press *
+< 1 event KEY *
+> press *
+< 1 event KEY *
+> press *
+< 1 event KEY *
+> press *
+< 1 event KEY *
+> press enter
+< 1 event KEY enter
+< 1 ended 1 OK entered 4 enter
+";
+
+// Nothing but Open does anything before a session is open.
+const NOT_OPEN: &[u8] = b"\
+listen 1 execute
+submit 1 0 getpin 4 16 hold 000F03FF00000000 0003000000000000
+auto
+press 1
+open 1
+open 1
+";
+
+const NOT_OPEN_PRINTED: &[u8] = b"\
+> listen 1 execute
+< 1 told NOSESSION
+> submit 1 0 getpin 4 16 hold 000F03FF00000000 0003000000000000
+< 1 refused NOSESSION
+> press 1
+> open 1
+< 1 told open
+> open 1
+< 1 told ALREADYOPEN
+";
+
+// An entry of 17 digits, cleared, corrected, too short for ENTER, and ended by CANCEL.
+const CANCELED: &[u8] = b"\
+open 1
+listen 1 execute
+submit 1 0 getpin 4 16 hold 000F03FF00000000 0003000000000000
+auto
+press 0
+press 1
+press 2
+press 3
+press 4
+press 5
+press 6
+press 7
+press 8
+press 9
+press 0
+press 1
+press 2
+press 3
+press 4
+press 5
+press 6
+press clear
+press back
+press 1
+press 2
+press 3
+press 4
+press back
+press enter
+press cancel
+press 1
+";
+
+const CANCELED_PRINTED: &[u8] = b"\
+> open 1
+< 1 told open
+> listen 1 execute
+< 1 told listening execute
+> submit 1 0 getpin 4 16 hold 000F03FF00000000 0003000000000000
+< 1 request 1
+> begin
+< 1 event ENTERDATA
+> press *
+< 1 event KEY *
+> press *
+< 1 event KEY *
+> press *
+< 1 event KEY *
+> press *
+< 1 event KEY *
+> press *
+< 1 event KEY *
+> press *
+< 1 event KEY *
+> press *
+< 1 event KEY *
+> press *
+< 1 event KEY *
+> press *
+< 1 event KEY *
+> press *
+< 1 event KEY *
+> press *
+< 1 event KEY *
+> press *
+< 1 event KEY *
+> press *
+< 1 event KEY *
+> press *
+< 1 event KEY *
+> press *
+< 1 event KEY *
+> press *
+< 1 event KEY *
+> press *
+> press clear
+< 1 event KEY clear
+> press back
+< 1 event KEY back
+> press *
+< 1 event KEY *
+> press *
+< 1 event KEY *
+> press *
+< 1 event KEY *
+> press *
+< 1 event KEY *
+> press back
+< 1 event KEY back
+> press enter
+> press cancel
+< 1 event KEY cancel
+< 1 ended 1 OK entered 0 cancel
+> press 1
+";
+
+// Two entries: one corrected and ended by ENTER, and a second that waits until the first has ended. No session listens.
+const TWO_ENTRIES: &[u8] = b"\
+open 1
+submit 1 0 getpin 4 16 hold 000F03FF00000000 0003000000000000
+submit 1 0 getpin 4 16 hold 000F03FF00000000 0003000000000000
+auto
+press 1
+press 2
+press 3
+press 4
+press 5
+press back
+press enter
+auto
+press 1
+press cancel
+auto
+";
+
+const TWO_ENTRIES_PRINTED: &[u8] = b"\
+> open 1
+< 1 told open
+> submit 1 0 getpin 4 16 hold 000F03FF00000000 0003000000000000
+< 1 request 1
+> submit 1 0 getpin 4 16 hold 000F03FF00000000 0003000000000000
+< 1 request 2
+> begin
+> press *
+> press *
+> press *
+> press *
+> press *
+> press back
+> press enter
+< 1 ended 1 OK entered 4 enter
+> begin
+> press *
+> press cancel
+< 1 ended 2 OK entered 0 cancel
+";
+
+const THREE_OPENS_PRINTED: &[u8] = b"\
+> open 1
+< 1 told open
+> open 1
+< 1 told ALREADYOPEN
+> open 1
+< 1 told ALREADYOPEN
+";
+
+// Runs a case, and compares how it ended with how it is to end.
+fn compare(rt: &impl Abort, alloc: Global, case: &Case) -> Result<(), Fail> {
+    let name = case.name;
+    let mut words = Vec::new(alloc);
+    for word in case.words {
+        words.push(String::from_str(alloc, word)?)?;
+    }
+    let source_fails = Calls::of(case.source_fails).ok_or("at most 32 calls")?;
+    let sink_fails = Calls::of(case.sink_fails).ok_or("at most 32 calls")?;
+    let mut source = MemSource::new(Octets::copy(alloc, case.script)?, 100, source_fails);
+    let mut sink = Counted::new(MemSink::new(alloc, case.room, sink_fails)?);
+    let ended = run_pinpad(alloc, words.as_slice(), &mut source, &mut sink);
+    assert_eq!(rt; ended.status, case.status, "{name}: status");
+    assert_eq!(rt; ended.line, case.line, "{name}: line");
+    let steps = ended.words.items();
+    assert_eq!(rt; steps.len(), case.steps, "{name}: steps");
+    let quiet = steps.iter().all(|word| matches!(word, DiskWord::Quiet));
+    assert!(rt; quiet, "{name}: words");
+    assert!(rt; sink.inner().bytes() == case.printed, "{name}: printed");
+    let left = source.take(&mut [0]);
+    assert_eq!(rt; left == Ok(0), case.read, "{name}: read");
+    Ok(())
+}
+
+#[test]
+fn scripts_and_faults(rt: HostRuntime) -> Result<(), Fail> {
+    let cases = [
+        WHOLE,
+        Case {
+            name: "PIN 1234",
+            script: ENTRY_1234,
+            line: 9,
+            steps: 9,
+            printed: ENTRY_PRINTED,
+            ..WHOLE
+        },
+        Case {
+            name: "PIN 9876",
+            script: ENTRY_9876,
+            line: 9,
+            steps: 9,
+            printed: ENTRY_PRINTED,
+            ..WHOLE
+        },
+        Case {
+            name: "no session is open, and then one is",
+            script: NOT_OPEN,
+            line: 6,
+            steps: 5,
+            printed: NOT_OPEN_PRINTED,
+            ..WHOLE
+        },
+        Case {
+            name: "17 digits, corrections and CANCEL",
+            script: CANCELED,
+            line: 31,
+            steps: 31,
+            printed: CANCELED_PRINTED,
+            ..WHOLE
+        },
+        Case {
+            name: "two entries",
+            script: TWO_ENTRIES,
+            line: 15,
+            steps: 14,
+            printed: TWO_ENTRIES_PRINTED,
+            ..WHOLE
+        },
+        Case {
+            name: "a word is lacking",
+            words: &[],
+            ..USAGE
+        },
+        Case {
+            name: "a word too many",
+            words: &["replay", "x"],
+            ..USAGE
+        },
+        Case {
+            name: "a capital letter",
+            words: &["Replay"],
+            ..USAGE
+        },
+        Case {
+            name: "a comment",
+            script: b"open 1\n# second\n",
+            ..OUTSIDE
+        },
+        Case {
+            name: "a blank line",
+            script: b"open 1\n\nauto\n",
+            ..OUTSIDE
+        },
+        Case {
+            name: "session 2",
+            script: b"open 1\nopen 2\n",
+            ..OUTSIDE
+        },
+        Case {
+            name: "no last line feed",
+            script: b"open 1\nauto",
+            ..OUTSIDE
+        },
+        Case {
+            name: "a carriage return",
+            script: b"open 1\r\n",
+            ..OUTSIDE
+        },
+        Case {
+            name: "bytes above 127",
+            script: b"open 1\n\xFFauto\n",
+            ..OUTSIDE
+        },
+        Case {
+            name: "the second read fails",
+            script: ENTRY_1234,
+            source_fails: &[2],
+            status: 3,
+            read: false,
+            ..WHOLE
+        },
+        Case {
+            name: "the second write fails",
+            script: ENTRY_1234,
+            sink_fails: &[2],
+            status: 4,
+            line: 2,
+            steps: 2,
+            printed: b"> open 1\n< 1 told open\n",
+            ..WHOLE
+        },
+        Case {
+            name: "room for 30 bytes",
+            script: ENTRY_1234,
+            room: 30,
+            status: 4,
+            line: 2,
+            steps: 2,
+            printed: b"> open 1\n< 1 told open\n> liste",
+            ..WHOLE
+        },
+    ];
+    for case in &cases {
+        compare(&rt, rt.alloc(), case)?;
+    }
+    Ok(())
+}
+
+// 16 requests wait, and a seventeenth is refused.
+#[test]
+fn queue_fills_up(rt: HostRuntime) -> Result<(), Fail> {
+    let alloc = rt.alloc();
+    let line = "submit 1 0 getpin 4 16 hold 000F03FF00000000 0003000000000000";
+    let mut script = format!(in alloc; "open 1\n")?;
+    let mut printed = format!(in alloc; "> open 1\n< 1 told open\n")?;
+    for id in 1..=16 {
+        script.push_str(format!(in alloc; "{line}\n")?.as_str())?;
+        printed.push_str(format!(in alloc; "> {line}\n< 1 request {id}\n")?.as_str())?;
+    }
+    script.push_str(format!(in alloc; "{line}\n")?.as_str())?;
+    printed.push_str(format!(in alloc; "> {line}\n< 1 refused QUEUEFULL 16\n")?.as_str())?;
+    let full = Case {
+        name: "17 requests",
+        script: script.as_bytes(),
+        line: 18,
+        steps: 18,
+        printed: printed.as_bytes(),
+        ..WHOLE
+    };
+    compare(&rt, alloc, &full)
+}
+
+// A script of 1,048,576 bytes is run, and one byte more is too long, whatever the bytes are.
+#[test]
+fn longest_script(rt: HostRuntime) -> Result<(), Fail> {
+    let alloc = rt.alloc();
+    let mut script = format!(in alloc; "open 1\nopen 1\nopen 1\n")?;
+    for _ in 0..209_711 {
+        script.push_str("auto\n")?;
+    }
+    let longest = Case {
+        name: "1,048,576 bytes",
+        script: script.as_bytes(),
+        line: 209_714,
+        steps: 3,
+        printed: THREE_OPENS_PRINTED,
+        ..WHOLE
+    };
+    compare(&rt, alloc, &longest)?;
+    let feeds = vec![in alloc; b'\n'; 1_048_577]?;
+    let letters = vec![in alloc; b'a'; 1_048_577]?;
+    for bytes in [&feeds, &letters] {
+        let long = Case {
+            name: "1,048,577 bytes",
+            script: bytes.as_slice(),
+            ..OUTSIDE
+        };
+        compare(&rt, alloc, &long)?;
+    }
+    Ok(())
+}
+
+// Each of these calls can answer that memory is wanting, and here it is not.
+#[test]
+fn memory_suffices(rt: HostRuntime) -> Result<(), Fail> {
+    let alloc = rt.alloc();
+    let mut bytes = Octets::copy(alloc, b"ab")?;
+    bytes.push(b'c')?;
+    bytes.append(b"de")?;
+    assert!(rt; bytes.items() == b"abcde".as_slice());
+
+    let session = Session::new(16).ok_or("1 to 16")?;
+    let mut outs = Outs::new(alloc)?;
+    outs.reserve(100)?;
+    outs.push(Out::Told(session, Told::Closed))?;
+    let said = matches!(outs.items(), [Out::Told(_, Told::Closed)]);
+    assert!(rt; said);
+
+    let mut words = Words::empty(alloc);
+    words.push(DiskWord::Failed(7))?;
+    words.push(DiskWord::Done)?;
+    let kept = matches!(words.items(), [DiskWord::Failed(7), DiskWord::Done]);
+    assert!(rt; kept);
+
+    let command = Command::ImportKey(ImportRequest {
+        name: KeyName::read(b"PPK").ok_or("a name")?,
+        source: ImportSource::Clear(Octets::copy(alloc, b"key value")?),
+        uses: 2,
+        verify: Verify::Zero,
+    });
+    let copied = match command.copy(alloc)? {
+        Command::ImportKey(request) => match &request.source {
+            ImportSource::Clear(value) => value.items() == b"key value".as_slice(),
+            _ => false,
+        },
+        _ => false,
+    };
+    assert!(rt; copied);
+    Ok(())
+}
