@@ -1,0 +1,81 @@
+#!/usr/bin/env bash
+# Times the program on large scripts, each at a tenth and at the whole of the greatest length, 1,048,576 bytes: one
+# long entry, many short ones, and as many lines as there can be. The transcript goes to a file.
+# The program is the first argument, or the one that ./replay builds.
+set -euo pipefail
+cd "$(dirname "$0")/.."
+program=${1:-crates/pinpad_cli/out/pinpad_cli}
+if [ ! -x "$program" ]; then
+    echo "bench/replay.sh: $program is not there: run ./replay examples/entry.txt first, or name the program" >&2
+    exit 2
+fi
+work=$(mktemp -d)
+trap 'rm -rf "$work"' EXIT
+
+submit='submit 1 0 getpin 4 16 hold 000F03FF00000000 0003000000000000'
+longest=1048576
+
+# One entry that is filled and cleared again and again, and ended by Enter at last.
+long_entry() {
+    printf 'open 1\nlisten 1 execute\n%s\nauto\n' "$submit"
+    awk -v bytes=$(($1 - 200)) 'BEGIN {
+        for (at = 0; at < bytes; at += length(line) + 1) {
+            line = n % 20 == 19 ? "press clear" : "press " n % 10
+            print line
+            n++
+        }
+    }'
+    printf 'press 1\npress 2\npress 3\npress 4\npress enter\n'
+}
+
+# Entries that are each ended by CANCEL at once.
+short_entries() {
+    printf 'open 1\nlisten 1 execute\n'
+    awk -v bytes=$(($1 - 200)) -v submit="$submit" 'BEGIN {
+        entry = submit "\nauto\npress cancel"
+        for (at = 0; at < bytes; at += length(entry) + 1) print entry
+    }'
+}
+
+# The shortest lines. Nothing is due, so nothing is printed.
+short_lines() {
+    awk -v lines=$(($1 / 5)) 'BEGIN { for (n = 0; n < lines; n++) print "auto" }'
+}
+
+# Runs the program five times on a script, and prints the least seconds and the peak of memory in KB, which is never
+# less than that of the process here that starts it.
+timed() {
+    python3 - "$program" "$1" "$work/transcript" <<'PYTHON'
+import os, sys, time
+
+program, script, transcript = sys.argv[1:]
+seconds, peak = [], []
+for _ in range(5):
+    streams = [
+        (os.POSIX_SPAWN_OPEN, 0, script, os.O_RDONLY, 0),
+        (os.POSIX_SPAWN_OPEN, 1, transcript, os.O_WRONLY | os.O_CREAT | os.O_TRUNC, 0o600),
+    ]
+    begun = time.monotonic()
+    child = os.posix_spawn(program, [program, "replay"], os.environ, file_actions=streams)
+    _, status, used = os.wait4(child, 0)
+    seconds.append(time.monotonic() - begun)
+    peak.append(used.ru_maxrss)
+    if status:
+        sys.exit(f"the program ended with status {os.waitstatus_to_exitcode(status)}")
+print(f"{min(seconds):.3f}", max(peak))
+PYTHON
+}
+
+for kind in long_entry short_entries short_lines; do
+    taken=()
+    for bytes in $((longest / 10)) $longest; do
+        "$kind" "$bytes" >"$work/script"
+        measured=$(timed "$work/script")
+        read -r seconds peak <<<"$measured"
+        printf '%-14s %8d bytes %6d lines %8s s %8d KB\n' "$kind" "$(wc -c <"$work/script")" \
+            "$(wc -l <"$work/script")" "$seconds" "$peak"
+        taken+=("$seconds")
+    done
+    awk -v kind=$kind -v small="${taken[0]}" -v large="${taken[1]}" \
+        'BEGIN { printf "%-14s the large one takes %.1f times as long\n", kind, large / small }'
+done
