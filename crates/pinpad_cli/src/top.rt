@@ -46,6 +46,7 @@ pub fn run_pinpad<S: Source, K: Sink>(
     ensures usage_reads_nothing { result.status ≡ 2 → source.new ≡ source.old }
     ensures usage_gives_nothing { result.status ≡ 2 → sink.new ≡ sink.old }
     ensures usage_runs_nothing { result.status ≡ 2 → result.words ≡ [] }
+    ensures usage_line { result.status ≡ 2 → result.line ≡ 0 }
 
     // All was run: the source was read to its end, there is a word for each step, and the text of the steps was given.
     ensures read_to_end { result.status ≡ 0 → OnSome (S.left source.old) (S.left source.new ≡ Some []) }
@@ -70,8 +71,14 @@ pub fn run_pinpad<S: Source, K: Sink>(
     ensures outside_line { result.status ≡ 1 → result.line ≡ 0 }
     ensures inside { (result.status ≡ 0) ⊎ (result.status ≡ 4) → IfSome (S.left source.old) (λ s. IsSome (lines_of s)) }
 
-    // Each fault has its cause.
+    // Never more lines are counted than there are.
+    ensures line_within { IfSome (S.left source.old) (λ s. result.line ≤ line_count (lines_of s)) }
+
+    // Each fault has its cause, and where the source failed nothing was run.
     ensures source_fault { result.status ≡ 3 → Rose (S.faults source.old) (S.faults source.new) }
+    ensures source_fault_gives_nothing { result.status ≡ 3 → sink.new ≡ sink.old }
+    ensures source_fault_runs_nothing { result.status ≡ 3 → result.words ≡ [] }
+    ensures source_fault_line { result.status ≡ 3 → result.line ≡ 0 }
     ensures sink_fault { result.status ≡ 4 → Rose (counted_faults K.faults sink.old) (counted_faults K.faults sink.new) }
 {
     if !is_replay(words) {
@@ -94,6 +101,7 @@ fn run_script<K: Sink>(alloc: Global, script: &[u8], sink: &mut Counted<K>) -> E
     ensures outside_line { result.status ≡ 1 → result.line ≡ 0 }
     ensures whole { result.status ≡ 0 → (set : Setting) → has_word_per_step set script.now result.words ≡ true }
     ensures lines { result.status ≡ 0 → result.line ≡ line_count (lines_of script.now) }
+    ensures line_within { result.line ≤ line_count (lines_of script.now) }
     ensures printed { result.status ≡ 0 → (set : Setting) → counted_given K.given sink.new ≡ with_more (counted_given K.given sink.old) (text_of set (steps_of set script.now result.words)) }
     ensures front { (set : Setting) → GivesFront (counted_given K.given sink.old) (counted_given K.given sink.new) (text_of set (steps_of set script.now result.words)) }
     ensures cause { result.status ≡ 4 → Rose (counted_faults K.faults sink.old) (counted_faults K.faults sink.new) }

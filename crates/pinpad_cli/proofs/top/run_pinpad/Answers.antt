@@ -1,5 +1,5 @@
 use Rattle.std.proofs.Common.{ap, inl, subst, sym, ◌∙◌}
-use Rattle.std.specs.Prelude.{IsSome, List, None, Option, ◌≡◌}
+use Rattle.std.specs.Prelude.{IsSome, List, None, Option, ◌≡◌, ◌≤◌}
 use Rattle.disk_core.specs.Streams.{GivesFront, with_more}
 use Rattle.flat_machine.specs.Machine.{Act}
 use Rattle.flat_machine.specs.State.{ready_opening}
@@ -50,3 +50,6 @@ returns-in-Ok-clause-outside g c = λ one. read-fact _ _ c.in-Ok.text (λ (lines
 
 pub returns-in-Ok-clause-inside : goal.returns-in-Ok-clause-inside
 returns-in-Ok-clause-inside g c = λ either. read-fact _ _ c.in-Ok.text (λ (lines : Option (List ScriptLine)). IsSome lines) c.in-Ok.ensures.read (rw c.items.ensures at (c.run_script.ensures.inside either))
+
+pub returns-in-Ok-clause-line_within : goal.returns-in-Ok-clause-line_within
+returns-in-Ok-clause-line_within g c = read-fact _ _ c.in-Ok.text (λ (lines : Option (List ScriptLine)). c.run_script.result.line ≤ line_count lines) c.in-Ok.ensures.read (rw c.items.ensures at c.run_script.ensures.line_within)
