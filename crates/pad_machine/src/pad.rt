@@ -80,18 +80,18 @@ impl Pad {
         requires ids { length self.old.public.requests < 2 ^ 32 - 2 }
 
         // No step calls a device yet.
-        ensures quiet { IfOk result (λ a. a.word ≡ Quiet) }
+        ensures quiet { IfOk result (λ stepped. stepped.word ≡ Quiet) }
 
         // For every state that the pad stands for, the step is the machine's.
-        ensures fits { IfOk result (λ a. (set : Setting) (h : Flat) → StandsFor self.old h → IsTrue (fits set h.public step.now a.word)) }
-        ensures state { IfOk result (λ a. (set : Setting) (h : Flat) → StandsFor self.old h → StandsFor self.new (next set h step.now a.word).state) }
-        ensures outs { IfOk result (λ a. (set : Setting) (h : Flat) → StandsFor self.old h →
-            out.new.items ≡ out.old.items ++ (next set h step.now a.word).outs) }
+        ensures fits { IfOk result (λ stepped. (setting : Setting) (state : Flat) → StandsFor self.old state → IsTrue (fits setting state.public step.now stepped.word)) }
+        ensures state { IfOk result (λ stepped. (setting : Setting) (state : Flat) → StandsFor self.old state → StandsFor self.new (next setting state step.now stepped.word).state) }
+        ensures outs { IfOk result (λ stepped. (setting : Setting) (state : Flat) → StandsFor self.old state →
+            out.new.items ≡ out.old.items ++ (next setting state step.now stepped.word).outs) }
 
         // An alike state that takes a twin step and releases the same says the same, and stays alike.
-        ensures unwinding { IfOk result (λ a. (set : Setting) (h g : Flat) (t : Step) → StandsFor self.old h → Alike h g →
-            TwinSteps h.public step.now t → release set g t ≡ release set h step.now →
-            AlikeAfter (next set h step.now a.word) (next set g t a.word)) }
+        ensures unwinding { IfOk result (λ stepped. (setting : Setting) (state other : Flat) (twin : Step) → StandsFor self.old state → Alike state other →
+            TwinSteps state.public step.now twin → release setting other twin ≡ release setting state step.now →
+            AlikeAfter (next setting state step.now stepped.word) (next setting other twin stepped.word)) }
         ensures err { OnErr result ((self.new ≡ self.old) × (out.new.items ≡ out.old.items)) }
 
         // A press takes no memory where two places are spare.
@@ -114,8 +114,8 @@ impl Pad {
     fn act(&mut self, step: &Step, out: &mut Outs) -> Result<(), NoMemory>
         requires formed { IsTrue (is_well_formed step.now) }
         requires ids { length self.old.public.requests < 2 ^ 32 - 2 }
-        ensures state { OnOk result ((set : Setting) → self.new ≡ (kept_next set self.old step.now Quiet).state) }
-        ensures outs { OnOk result ((set : Setting) → out.new.items ≡ out.old.items ++ (kept_next set self.old step.now Quiet).outs) }
+        ensures state { OnOk result ((setting : Setting) → self.new ≡ (kept_next setting self.old step.now Quiet).state) }
+        ensures outs { OnOk result ((setting : Setting) → out.new.items ≡ out.old.items ++ (kept_next setting self.old step.now Quiet).outs) }
         ensures err { OnErr result ((self.new ≡ self.old) × (out.new.items ≡ out.old.items)) }
         ensures press { IsTrue (is_press step.now) → 2 ≤ out.old.spare → IsOk result }
     {
@@ -132,7 +132,7 @@ impl Pad {
 
     /// The step that is due: Begin where no request is in work and one waits.
     pub fn next_work(&self) -> Option<Step>
-        ensures due { (h : Flat) → StandsFor self.now h → result ≡ next_work h.public }
+        ensures due { (state : Flat) → StandsFor self.now state → result ≡ next_work state.public }
         ensures kept { result ≡ next_work self.now.public }
         ensures formed { IfSome result (λ step. IsTrue (is_well_formed step)) }
         ensures on { IfSome result (λ step. is_off self.now.public.device ≡ false) }
@@ -149,7 +149,7 @@ impl Pad {
 
     /// Whether the step is a press of an active digit of a running PIN entry.
     pub fn masked(&self, step: &Step) -> bool
-        ensures { (h : Flat) → StandsFor self.now h → result ≡ masked h.public step.now }
+        ensures { (state : Flat) → StandsFor self.now state → result ≡ masked state.public step.now }
     {
         match step {
             Step::Press(key) => match self.requests.running() {
@@ -208,8 +208,8 @@ impl Pad {
     ) -> Result<(), NoMemory>
         requires built { IsTrue (is_well_formed_command command.now) }
         requires ids { length self.old.public.requests < 2 ^ 32 - 2 }
-        ensures state { OnOk result ((set : Setting) → self.new ≡ (kept_said self.old (next_submit set.works self.old.public session limit command.now)).state) }
-        ensures outs { OnOk result ((set : Setting) → out.new.items ≡ out.old.items ++ (next_submit set.works self.old.public session limit command.now).outs) }
+        ensures state { OnOk result ((setting : Setting) → self.new ≡ (kept_said self.old (next_submit setting.works self.old.public session limit command.now)).state) }
+        ensures outs { OnOk result ((setting : Setting) → out.new.items ≡ out.old.items ++ (next_submit setting.works self.old.public session limit command.now).outs) }
         ensures err { OnErr result ((self.new ≡ self.old) × (out.new.items ≡ out.old.items)) }
     {
         out.reserve(1)?;
@@ -252,8 +252,8 @@ impl Pad {
     }
 
     fn press(&mut self, key: Key, out: &mut Outs) -> Result<(), NoMemory>
-        ensures state { OnOk result ((set : Setting) → self.new ≡ (kept_press_in set self.old (running self.old.public) key).state) }
-        ensures outs { OnOk result ((set : Setting) → out.new.items ≡ out.old.items ++ (kept_press_in set self.old (running self.old.public) key).outs) }
+        ensures state { OnOk result ((setting : Setting) → self.new ≡ (kept_press_in setting self.old (running self.old.public) key).state) }
+        ensures outs { OnOk result ((setting : Setting) → out.new.items ≡ out.old.items ++ (kept_press_in setting self.old (running self.old.public) key).outs) }
         ensures err { OnErr result ((self.new ≡ self.old) × (out.new.items ≡ out.old.items)) }
         ensures spare { 2 ≤ out.old.spare → IsOk result }
     {
@@ -290,8 +290,8 @@ impl Pad {
         out: &mut Outs,
     )
         requires { 2 ≤ out.old.spare }
-        ensures state { (set : Setting) → self.new ≡ (kept_ends set self.old (running_of entry) shown completion self.old.digits).state }
-        ensures outs { (set : Setting) → out.new.items ≡ out.old.items ++ (kept_ends set self.old (running_of entry) shown completion self.old.digits).outs }
+        ensures state { (setting : Setting) → self.new ≡ (kept_ends setting self.old (running_of entry) shown completion self.old.digits).state }
+        ensures outs { (setting : Setting) → out.new.items ≡ out.old.items ++ (kept_ends setting self.old (running_of entry) shown completion self.old.digits).outs }
     {
         send(
             self.sessions.as_slice(),

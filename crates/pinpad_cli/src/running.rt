@@ -44,10 +44,10 @@ pub fn run_step<K: Sink>(
 ) -> Result<(), Break>
     requires formed { IsTrue (is_well_formed step.now) }
     requires ids { length pad.old.public.requests < 2 ^ 32 - 2 }
-    ensures ran { OnOk result ((set : Setting) (h : Flat) (rest : Player) → StandsFor pad.old h →
-        Ran set h (step_then set step.now rest) rest pad.new words.old.items words.new.items (counted_given K.given sink.old) (counted_given K.given sink.new)) }
-    ensures broke { OnErr result ((set : Setting) (h : Flat) (rest : Player) → StandsFor pad.old h →
-        BrokeOff set h (step_then set step.now rest) words.old.items words.new.items (counted_given K.given sink.old) (counted_given K.given sink.new)) }
+    ensures ran { OnOk result ((setting : Setting) (state : Flat) (rest : Player) → StandsFor pad.old state →
+        Ran setting state (step_then setting step.now rest) rest pad.new words.old.items words.new.items (counted_given K.given sink.old) (counted_given K.given sink.new)) }
+    ensures broke { OnErr result ((setting : Setting) (state : Flat) (rest : Player) → StandsFor pad.old state →
+        BrokeOff setting state (step_then setting step.now rest) words.old.items words.new.items (counted_given K.given sink.old) (counted_given K.given sink.new)) }
     ensures later { counted_faults K.faults sink.old ≤ counted_faults K.faults sink.new }
     ensures cause { IfErr result (λ stop. stop.fault ≡ Fault.Failed → Rose (counted_faults K.faults sink.old) (counted_faults K.faults sink.new)) }
     ensures less { OnOk result (is_off pad.old.public.device ≡ false → next_work pad.old.public ≡ Some step.now → work_left pad.new.public.requests < work_left pad.old.public.requests) }
@@ -96,10 +96,10 @@ pub fn run_auto<K: Sink>(
     sink: &mut Counted<K>,
 ) -> Result<(), Break>
     requires ids { length pad.old.public.requests < 2 ^ 32 - 2 }
-    ensures ran { OnOk result ((set : Setting) (h : Flat) (rest : Player) → StandsFor pad.old h →
-        Ran set h (auto_then set rest) rest pad.new words.old.items words.new.items (counted_given K.given sink.old) (counted_given K.given sink.new)) }
-    ensures broke { OnErr result ((set : Setting) (h : Flat) (rest : Player) → StandsFor pad.old h →
-        BrokeOff set h (auto_then set rest) words.old.items words.new.items (counted_given K.given sink.old) (counted_given K.given sink.new)) }
+    ensures ran { OnOk result ((setting : Setting) (state : Flat) (rest : Player) → StandsFor pad.old state →
+        Ran setting state (auto_then setting rest) rest pad.new words.old.items words.new.items (counted_given K.given sink.old) (counted_given K.given sink.new)) }
+    ensures broke { OnErr result ((setting : Setting) (state : Flat) (rest : Player) → StandsFor pad.old state →
+        BrokeOff setting state (auto_then setting rest) words.old.items words.new.items (counted_given K.given sink.old) (counted_given K.given sink.new)) }
     ensures later { counted_faults K.faults sink.old ≤ counted_faults K.faults sink.new }
     ensures cause { IfErr result (λ stop. stop.fault ≡ Fault.Failed → Rose (counted_faults K.faults sink.old) (counted_faults K.faults sink.new)) }
     ensures ids { OnOk result (length pad.new.public.requests ≤ length pad.old.public.requests) }
@@ -123,10 +123,10 @@ pub fn run_line<K: Sink>(
 ) -> Result<(), Break>
     requires built { IsBuilt line.now }
     requires ids { length pad.old.public.requests < 2 ^ 32 - 2 }
-    ensures ran { OnOk result ((set : Setting) (h : Flat) (rest : Player) → StandsFor pad.old h →
-        Ran set h (line_then set line.now rest) rest pad.new words.old.items words.new.items (counted_given K.given sink.old) (counted_given K.given sink.new)) }
-    ensures broke { OnErr result ((set : Setting) (h : Flat) (rest : Player) → StandsFor pad.old h →
-        BrokeOff set h (line_then set line.now rest) words.old.items words.new.items (counted_given K.given sink.old) (counted_given K.given sink.new)) }
+    ensures ran { OnOk result ((setting : Setting) (state : Flat) (rest : Player) → StandsFor pad.old state →
+        Ran setting state (line_then setting line.now rest) rest pad.new words.old.items words.new.items (counted_given K.given sink.old) (counted_given K.given sink.new)) }
+    ensures broke { OnErr result ((setting : Setting) (state : Flat) (rest : Player) → StandsFor pad.old state →
+        BrokeOff setting state (line_then setting line.now rest) words.old.items words.new.items (counted_given K.given sink.old) (counted_given K.given sink.new)) }
     ensures later { counted_faults K.faults sink.old ≤ counted_faults K.faults sink.new }
     ensures cause { IfErr result (λ stop. stop.fault ≡ Fault.Failed → Rose (counted_faults K.faults sink.old) (counted_faults K.faults sink.new)) }
     ensures ids { OnOk result (length pad.new.public.requests ≤ length pad.old.public.requests + 1) }
@@ -155,10 +155,10 @@ pub fn run_lines<K: Sink>(
     requires built { All IsBuilt lines.now }
     requires fresh { pad.old.public.requests ≡ [] }
     requires few { length lines.now ≤ 1048576 }
-    ensures ran { IfNone result.fault ((set : Setting) (h : Flat) → StandsFor pad.old h →
-        Ran set h (play set lines.now) (play set []) pad.new words.old.items words.new.items (counted_given K.given sink.old) (counted_given K.given sink.new)) }
-    ensures broke { OnSome result.fault ((set : Setting) (h : Flat) → StandsFor pad.old h →
-        BrokeOff set h (play set lines.now) words.old.items words.new.items (counted_given K.given sink.old) (counted_given K.given sink.new)) }
+    ensures ran { IfNone result.fault ((setting : Setting) (state : Flat) → StandsFor pad.old state →
+        Ran setting state (play setting lines.now) (play setting []) pad.new words.old.items words.new.items (counted_given K.given sink.old) (counted_given K.given sink.new)) }
+    ensures broke { OnSome result.fault ((setting : Setting) (state : Flat) → StandsFor pad.old state →
+        BrokeOff setting state (play setting lines.now) words.old.items words.new.items (counted_given K.given sink.old) (counted_given K.given sink.new)) }
     ensures lines { result.lines ≤ length lines.now }
     ensures all { IfNone result.fault (result.lines ≡ length lines.now) }
     ensures later { counted_faults K.faults sink.old ≤ counted_faults K.faults sink.new }

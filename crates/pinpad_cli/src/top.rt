@@ -50,29 +50,29 @@ pub fn run_pinpad<S: Source, K: Sink>(
 
     // All was run: the source was read to its end, there is a word for each step, and the text of the steps was given.
     ensures read_to_end { result.status ≡ 0 → OnSome (S.left source.old) (S.left source.new ≡ Some []) }
-    ensures whole { result.status ≡ 0 → IfSome (S.left source.old) (λ s. (set : Setting) → has_word_per_step set s result.words ≡ true) }
-    ensures lines { result.status ≡ 0 → IfSome (S.left source.old) (λ s. result.line ≡ line_count (lines_of s)) }
-    ensures printed { result.status ≡ 0 → IfSome (S.left source.old) (λ s. (set : Setting) →
-        counted_given K.given sink.new ≡ with_more (counted_given K.given sink.old) (text_of set (steps_of set s result.words))) }
+    ensures whole { result.status ≡ 0 → IfSome (S.left source.old) (λ script. (setting : Setting) → has_word_per_step setting script result.words ≡ true) }
+    ensures lines { result.status ≡ 0 → IfSome (S.left source.old) (λ script. result.line ≡ line_count (lines_of script)) }
+    ensures printed { result.status ≡ 0 → IfSome (S.left source.old) (λ script. (setting : Setting) →
+        counted_given K.given sink.new ≡ with_more (counted_given K.given sink.old) (text_of setting (steps_of setting script result.words))) }
 
     // The same bytes are the text of every twin of the steps.
-    ensures twins { result.status ≡ 0 → IfSome (S.left source.old) (λ s. (set : Setting) (b : List Act) → Twins set ready_opening (steps_of set s result.words) b →
-        counted_given K.given sink.new ≡ with_more (counted_given K.given sink.old) (text_of set b)) }
+    ensures twins { result.status ≡ 0 → IfSome (S.left source.old) (λ script. (setting : Setting) (twin : List Act) → Twins setting ready_opening (steps_of setting script result.words) twin →
+        counted_given K.given sink.new ≡ with_more (counted_given K.given sink.old) (text_of setting twin)) }
 
     // In every status a front of that text was given.
-    ensures front { IfSome (S.left source.old) (λ s. (set : Setting) →
-        GivesFront (counted_given K.given sink.old) (counted_given K.given sink.new) (text_of set (steps_of set s result.words))) }
-    ensures twin_front { IfSome (S.left source.old) (λ s. (set : Setting) (b : List Act) → Twins set ready_opening (steps_of set s result.words) b →
-        GivesFront (counted_given K.given sink.old) (counted_given K.given sink.new) (text_of set b)) }
+    ensures front { IfSome (S.left source.old) (λ script. (setting : Setting) →
+        GivesFront (counted_given K.given sink.old) (counted_given K.given sink.new) (text_of setting (steps_of setting script result.words))) }
+    ensures twin_front { IfSome (S.left source.old) (λ script. (setting : Setting) (twin : List Act) → Twins setting ready_opening (steps_of setting script result.words) twin →
+        GivesFront (counted_given K.given sink.old) (counted_given K.given sink.new) (text_of setting twin)) }
 
     // A script outside the grammar: nothing is given, and no other status comes but by a fault of the source or want of memory.
-    ensures outside { result.status ≡ 1 → IfSome (S.left source.old) (λ s. lines_of s ≡ None) }
+    ensures outside { result.status ≡ 1 → IfSome (S.left source.old) (λ script. lines_of script ≡ None) }
     ensures outside_gives_nothing { result.status ≡ 1 → sink.new ≡ sink.old }
     ensures outside_line { result.status ≡ 1 → result.line ≡ 0 }
-    ensures inside { (result.status ≡ 0) ⊎ (result.status ≡ 4) → IfSome (S.left source.old) (λ s. IsSome (lines_of s)) }
+    ensures inside { (result.status ≡ 0) ⊎ (result.status ≡ 4) → IfSome (S.left source.old) (λ script. IsSome (lines_of script)) }
 
     // Never more lines are counted than there are.
-    ensures line_within { IfSome (S.left source.old) (λ s. result.line ≤ line_count (lines_of s)) }
+    ensures line_within { IfSome (S.left source.old) (λ script. result.line ≤ line_count (lines_of script)) }
 
     // Each fault has its cause, and where the source failed nothing was run.
     ensures source_fault { result.status ≡ 3 → Rose (S.faults source.old) (S.faults source.new) }
@@ -99,11 +99,11 @@ fn run_script<K: Sink>(alloc: Global, script: &[u8], sink: &mut Counted<K>) -> E
     ensures inside { (result.status ≡ 0) ⊎ (result.status ≡ 4) → IsSome (lines_of script.now) }
     ensures outside_gives_nothing { result.status ≡ 1 → sink.new ≡ sink.old }
     ensures outside_line { result.status ≡ 1 → result.line ≡ 0 }
-    ensures whole { result.status ≡ 0 → (set : Setting) → has_word_per_step set script.now result.words ≡ true }
+    ensures whole { result.status ≡ 0 → (setting : Setting) → has_word_per_step setting script.now result.words ≡ true }
     ensures lines { result.status ≡ 0 → result.line ≡ line_count (lines_of script.now) }
     ensures line_within { result.line ≤ line_count (lines_of script.now) }
-    ensures printed { result.status ≡ 0 → (set : Setting) → counted_given K.given sink.new ≡ with_more (counted_given K.given sink.old) (text_of set (steps_of set script.now result.words)) }
-    ensures front { (set : Setting) → GivesFront (counted_given K.given sink.old) (counted_given K.given sink.new) (text_of set (steps_of set script.now result.words)) }
+    ensures printed { result.status ≡ 0 → (setting : Setting) → counted_given K.given sink.new ≡ with_more (counted_given K.given sink.old) (text_of setting (steps_of setting script.now result.words)) }
+    ensures front { (setting : Setting) → GivesFront (counted_given K.given sink.old) (counted_given K.given sink.new) (text_of setting (steps_of setting script.now result.words)) }
     ensures cause { result.status ≡ 4 → Rose (counted_faults K.faults sink.old) (counted_faults K.faults sink.new) }
 {
     let Ok(found) = script_lines(alloc, script) else {
