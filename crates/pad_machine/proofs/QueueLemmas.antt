@@ -9,6 +9,7 @@ use Rattle.flat_machine.specs.Sound.{pending_pass}
 use Rattle.flat_machine.specs.declared.types.Asked.{Asked}
 use Rattle.flat_machine.specs.declared.types.Row.{Row}
 use Rattle.flat_machine.specs.declared.types.Row.TheVariants.{Gone, InWork, Waiting}
+use Rattle.pad_machine.proofs.RowLemmas.{length-begun_as, length-finished}
 use Rattle.pad_machine.specs.Queue.{IsScanStart, is_gone, is_pending_row}
 use Rattle.pad_steps.specs.Formed.{is_well_formed_command}
 use Rattle.pad_steps.specs.declared.answers.Reply.{Reply}
@@ -112,18 +113,6 @@ finished-drop reply (suc place) (Waiting asked ∷ rows) gone = cc
 finished-drop reply (suc place) (InWork asked ∷ rows) gone = cc
 finished-drop reply (suc place) (Gone id session old ∷ rows) gone = ap (λ (rest : List (Row Command Reply)). Gone id session old ∷ rest) (finished-drop reply place rows gone)
 
-length-begun : (rows : List (Row Command Reply)) → length (begun None rows) ≡ length rows
-length-begun [] = refl
-length-begun (Waiting asked ∷ rows) = refl
-length-begun (InWork asked ∷ rows) = ap (λ (n : ℕ). suc n) (length-begun rows)
-length-begun (Gone id session reply ∷ rows) = ap (λ (n : ℕ). suc n) (length-begun rows)
-
-length-finished : (reply : Reply) (rows : List (Row Command Reply)) → length (finished reply rows) ≡ length rows
-length-finished reply [] = refl
-length-finished reply (Waiting asked ∷ rows) = ap (λ (n : ℕ). suc n) (length-finished reply rows)
-length-finished reply (InWork asked ∷ rows) = refl
-length-finished reply (Gone id session old ∷ rows) = ap (λ (n : ℕ). suc n) (length-finished reply rows)
-
 gone-begun : (place : ℕ) (rows : List (Row Command Reply)) → IsTrue (list_all is_gone (take place rows)) → IsTrue (list_all is_gone (take place (begun None rows)))
 gone-begun zero rows gone = refl
 gone-begun (suc place) [] gone = refl
@@ -158,7 +147,7 @@ scan-submitted place rows new start formed = record {
 
 pub scan-begun : (place : ℕ) (rows : List (Row Command Reply)) → IsScanStart place rows → IsScanStart place (begun None rows)
 scan-begun place rows start = record {
-  within = rw (length-begun rows) start.within;
+  within = rw (length-begun_as (λ (asked : Asked Command). InWork asked) None rows) start.within;
   gone = gone-begun place rows start.gone;
   built = pending_pass-begun is_well_formed_command rows start.built;
 }

@@ -1,13 +1,13 @@
 -- What a step leaves to do, and how many ids it draws.
 use Rattle.std.proofs.Common.{ap, arith, inl, inr, length-append, subst, ◌∙◌}
-use Rattle.std.specs.Prelude.{Bool, IsTrue, List, None, Option, Some, [], false, if◌then◌else◌, length, refl, suc, true, ℕ, ◌+◌, ◌<◌, ◌∷◌, ◌≡◌, ◌≤◌, ◌⊎◌}
+use Rattle.std.specs.Prelude.{Bool, IsTrue, List, None, Option, Some, [], false, if◌then◌else◌, length, refl, true, ℕ, ◌+◌, ◌<◌, ◌∷◌, ◌≡◌, ◌≤◌, ◌⊎◌}
 use Rattle.flat_machine.specs.Decisions.{Goes}
 use Rattle.flat_machine.specs.Entries.{Entry, entry_of, entry_refusal}
 use Rattle.flat_machine.specs.EntrySteps.{begin_as, begin_entry, begin_with, first_of}
 use Rattle.flat_machine.specs.Kept.{Kept, KeptAfter, kept_next, kept_press_in, kept_seen}
 use Rattle.flat_machine.specs.Machine.{due_finish, due_in, next_work}
 use Rattle.flat_machine.specs.RequestSteps.{submit_by, submit_refusal}
-use Rattle.flat_machine.specs.Requests.{begun, begun_as, eligible, finished, may_begin, refused_at_begin, working}
+use Rattle.flat_machine.specs.Requests.{begun, eligible, may_begin, refused_at_begin, working}
 use Rattle.flat_machine.specs.Sessions.{holder_of, is_open}
 use Rattle.flat_machine.specs.State.{Public, Running, Said, device_refusal, is_off, running, unchanged}
 use Rattle.flat_machine.specs.Works.{Setting}
@@ -19,6 +19,7 @@ use Rattle.flat_machine.specs.declared.types.Seen.TheVariants.{Ended, Ignored, T
 use Rattle.key_attributes.specs.declared.Use.TheVariants.{Crypt}
 use Rattle.key_source.specs.Keys.{has_key}
 use Rattle.key_source.specs.declared.Key.{Key}
+use Rattle.pad_machine.proofs.RowLemmas.{length-begun_as, length-finished}
 use Rattle.pad_machine.specs.Stands.{draws, work_left}
 use Rattle.pad_steps.specs.Formed.{is_well_formed}
 use Rattle.pad_steps.specs.declared.answers.Answer.TheVariants.{Done}
@@ -112,23 +113,7 @@ less-work kept s (inr is) formed on due = rw is (less-begin kept.public (is_off 
 pub less-next : (kept : Kept) (s : Step) → IsTrue (is_well_formed s) → is_off kept.public.device ≡ false → next_work kept.public ≡ Some s → work_left (kept_next some_setting kept s Quiet).state.public.requests < work_left kept.public.requests
 less-next kept s formed on due = less-work kept s (work-in s (working kept.public.requests) (eligible (holder_of kept.public.line) kept.public.requests) due) formed on due
 
--- how many requests there are
-length-begun_as : (new : Asked Command → Row Command Reply) (holder : Option Session) (rows : List (Row Command Reply)) → length (begun_as new holder rows) ≡ length rows
-length-begun_as new holder [] = refl
-length-begun_as new holder (Waiting asked ∷ rows) = length-if (may_begin holder asked) (new asked) asked rows (begun_as new holder rows) (length-begun_as new holder rows)
-  where
-    length-if : (b : Bool) (row : Row Command Reply) (asked : Asked Command) (rows others : List (Row Command Reply)) → length others ≡ length rows → length (if b then row ∷ rows else Waiting asked ∷ others) ≡ suc (length rows)
-    length-if true row asked rows others same = refl
-    length-if false row asked rows others same = ap (λ (n : ℕ). suc n) same
-length-begun_as new holder (InWork asked ∷ rows) = ap (λ (n : ℕ). suc n) (length-begun_as new holder rows)
-length-begun_as new holder (Gone id session answer ∷ rows) = ap (λ (n : ℕ). suc n) (length-begun_as new holder rows)
-
-length-finished : (answer : Reply) (rows : List (Row Command Reply)) → length (finished answer rows) ≡ length rows
-length-finished answer [] = refl
-length-finished answer (Waiting asked ∷ rows) = ap (λ (n : ℕ). suc n) (length-finished answer rows)
-length-finished answer (InWork asked ∷ rows) = refl
-length-finished answer (Gone id session old ∷ rows) = ap (λ (n : ℕ). suc n) (length-finished answer rows)
-
+-- how many requests a step leaves
 count-if : (b : Bool) (x y : Said) (n : ℕ) → length x.public.requests ≡ n → length y.public.requests ≡ n → length (if b then x else y).public.requests ≡ n
 count-if true x y n same other = same
 count-if false x y n same other = other
