@@ -88,8 +88,7 @@ select_step functions i word out v eight below small bound is =
     let done : 4 * (i + 1) ≡ 4 * i + 4 = omega arith in
     let left : 48 - 6 * i ≡ 6 + (42 - 6 * i) = omega arith in
     let less : 48 - 6 * (i + 1) ≡ 42 - 6 * i = omega arith in
-    let fits : 4 * i + 4 ≤ 32 = omega arith in
-    (
+    let fits : 4 * i + 4 ≤ 32 = omega arith in (
       rw (done, left, less) (select_more functions i (4 * i) (42 - 6 * i) word out v (omega arith) small bound fits is),
       rw done (or-below (4 * i) 4 32 out v fits bound small),
     )

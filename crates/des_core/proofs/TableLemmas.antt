@@ -32,17 +32,15 @@ permute_step width word table i out all within few bits bound =
     let placed = place_at width table i all within in
     let read : bit ≡ get_or (bits_of width word) (place - 1) 0 =
     bit_is ∙ sym (get_or-bits_of width word (place - 1) (omega (arith, placed)) ∙ ap (bit_at word) (omega (arith, placed))) in
-    let before = bits_by_table (take i table) (bits_of width word) in
-    (
+    let before = bits_by_table (take i table) (bits_of width word) in (
       bits_of-or i 1 64 out bit (omega arith) bound small
-      ∙ (rw (bits, bits_of-one bit small) (ap (λ b. before ++ b ∷ []) read) ∙ sym (bits_by_table-take table (bits_of width word) i within)),
+          ∙ (rw (bits, bits_of-one bit small) (ap (λ b. before ++ b ∷ []) read) ∙ sym (bits_by_table-take table (bits_of width word) i within)),
       or-below i 1 64 out bit (omega arith) bound small,
     )
 
 pub length-bits_by_table : (table bits : List ℕ) → length (bits_by_table table bits) ≡ length table
 unfolding bits_by_table
 length-bits_by_table table bits = length-map table _
-
 
 pub bits_by_table-bits_by_table : (outer inner bits : List ℕ) → IsTrue (are_places (length inner) outer) → bits_by_table outer (bits_by_table inner bits) ≡ bits_by_table (bits_by_table outer inner) bits
 unfolding bits_by_table

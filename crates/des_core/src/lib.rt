@@ -7,7 +7,6 @@ pub mod laws;
 mod permutation;
 mod rounds;
 mod tables;
-
 #[cfg(test)]
 mod tests;
 

@@ -1,7 +1,11 @@
 ghost use Rattle.std.specs.Prelude.{◌≡◌, ◌<◌, map};
 ghost use Rattle.des_core.specs.Bits.{bits_of};
 ghost use Rattle.des_core.specs.Des.{
-    row_of, column_of, selections, cipher_function, preoutput,
+  row_of,
+  column_of,
+  selections,
+  cipher_function,
+  preoutput,
 };
 ghost use Rattle.des_core.specs.SelectionFunctions.{selection_functions};
 

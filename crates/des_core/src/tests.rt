@@ -5,6 +5,7 @@ fn block(number: u64) -> Block {
     Block(number.to_be_bytes())
 }
 
+/// The published answers of `laws::known_answers`, of the code.
 #[test]
 fn known_answers(rt: HostRuntime) {
     let answers = [
@@ -14,6 +15,58 @@ fn known_answers(rt: HostRuntime) {
         (0x0123456789ABCDEF, 0x4E6F772069732074, 0x3FA40E8A984D4815),
     ];
     for (key, plain, cipher) in answers {
+        assert_eq!(rt; des_encrypt(block(key), block(plain)), block(cipher));
+        assert_eq!(rt; des_decrypt(block(key), block(cipher)), block(plain));
+    }
+}
+
+/// Keys, plain blocks and what OpenSSL 3.0.19 answers. Keys and blocks are the beginnings of digests. Made by:
+///
+/// for i in $(seq 1 32); do
+///     key=$(printf 'key %d' $i | openssl dgst -sha256 -r | cut -c 1-16)
+///     plain=$(printf 'block %d' $i | openssl dgst -sha256 -r | cut -c 1-16)
+///     cipher=$(printf $plain | xxd -r -p |
+///         openssl enc -des-ecb -nopad -K $key -provider legacy -provider default | xxd -p)
+///     echo "(0x${key^^}, 0x${plain^^}, 0x${cipher^^}),"
+/// done
+const OPENSSL_ANSWERS: [(u64, u64, u64); 32] = [
+    (0x227BA5F2C6C9109F, 0xCABDBDFA02C612A9, 0xD0D6E8251500B917),
+    (0x08F225FE08E94A5B, 0x3C2001AACCEAB201, 0xD2CEBA2C797D2D5A),
+    (0x3D3EE11C2FBF7F6A, 0x567744AE5CD2F67A, 0x254629445533E2A4),
+    (0xA1788CE1D89FE8B4, 0x8E6BC5AA44A341CC, 0x4F2CBD7F166ED341),
+    (0x4FEC9C05B7F6DB9C, 0x159974C0F53FF1C4, 0x1081147B37CD8C89),
+    (0xB7A7F761815E89D6, 0xA56E2A48B9D79B3B, 0xC437556C4EB22941),
+    (0x2178BF21A7BEA99A, 0x40572D2357D261B7, 0x9CE9FCF8E90F5D2A),
+    (0xBD083ACCBFA2ED57, 0x7C0021D44FCA8786, 0x25B056FEC384C120),
+    (0x4896D6E793E5777F, 0x23636F2018D304A7, 0x370BA1439BDA501A),
+    (0x0DD1C1139F9B0C2C, 0x575F32B08CCC5D53, 0xEFC1A3C4116BE3D1),
+    (0xAF18F4EBAE5AD263, 0x2EB248DFD5C7A836, 0x9159593BDC71B54C),
+    (0x3D977BB56C0BC91B, 0x3E453B21CB84F6B8, 0xAB20699919D95AD9),
+    (0xCF4B51195EECBA07, 0xF65EEDF655F2029F, 0x2B5F4F4DAF00FD0A),
+    (0x1C47270FA29E1B06, 0xB708DC768A31FFC2, 0x89EC2BF6A64CD13E),
+    (0x40A178B3C1BEE408, 0x686AADFBEBE041C8, 0x822C3B785C7B0E43),
+    (0x7B2B3DDA3B07424E, 0xB1509CBF9C67A65B, 0x493C28607A73B9B1),
+    (0x63D052903B2D0F90, 0x410E84C22390E7DE, 0xFD50F76176FD766F),
+    (0x1B3B8446C26A631F, 0xDA3081F2DE49B356, 0xABB6BD030BE29FCB),
+    (0x26E65DED64414A16, 0xEE3B64B15C0726E6, 0xE2E02D9238489E0C),
+    (0x06ADB8B95448603C, 0xF37C45789B72B719, 0xFF9B9F8205CB3130),
+    (0x32F29820AE5EF024, 0x7AB6DD3FB255A042, 0x5B7126512C8F2400),
+    (0x81AA734E23FCF768, 0x86B07A019E53E89C, 0xD6E945A7E87497B9),
+    (0x43249D8A244D8F1E, 0xE9ABC68CEF170ACB, 0xFE8066E6566C33F3),
+    (0xD835DF1B312F1115, 0xF3480413EB25B3A9, 0x0F02E96D5ABD3D70),
+    (0x16F9A7E7473207A1, 0xA9EC81E4B8D09D7E, 0x383DED6B05662D82),
+    (0xE46631F6CA0AA879, 0xB11E9527D5AC2428, 0x0214211AC56D2FF1),
+    (0x06C1B5FC76B053FB, 0x05ED900BCC75BC2B, 0xA8D8284CF832B5CA),
+    (0x288486A1B9B7DBDE, 0x61D7BE717EF9C7D1, 0x5B21F15471F1137E),
+    (0x2AE195F1ED002D81, 0xE196F859851DDCD7, 0x81B1E3A0A1CE6217),
+    (0x17F097D3C2485741, 0xA377E3B06E0CEE82, 0x73F3ED7EB0915F5C),
+    (0x3C438BB725A7E900, 0xE38B2CAAFC6BCE4B, 0x1FBFDF572789EF4E),
+    (0x8E0F61F31687803F, 0x2387A298BAEEE21A, 0x8DE502E19CD22C64),
+];
+
+#[test]
+fn openssl_answers(rt: HostRuntime) {
+    for (key, plain, cipher) in OPENSSL_ANSWERS {
         assert_eq!(rt; des_encrypt(block(key), block(plain)), block(cipher));
         assert_eq!(rt; des_decrypt(block(key), block(cipher)), block(plain));
     }
