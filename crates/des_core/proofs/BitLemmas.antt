@@ -68,22 +68,26 @@ bits_of-xor (suc width) a b =
     rw (first, bits_of-xor width a b) refl
 
 -- a number shifted left within a word of `word` bits, and another in the places that are freed
-pub or_after_shl : (a b word x y : ℕ) → a + b ≤ word → x < 2 ^ a → y < 2 ^ b → bit_or (x * 2 ^ b % 2 ^ word) y ≡ x * 2 ^ b + y
+pub or_after_shl : (a b word x y : ℕ) → a + b ≤ word → x < 2 ^ a → y < 2 ^ b
+    → bit_or (x * 2 ^ b % 2 ^ word) y ≡ x * 2 ^ b + y
 or_after_shl a b word x y fits x_small y_small =
     ap (λ m. bit_or m y) (shl_whole x a b word x_small fits) ∙ or_shifted x b y y_small
 
-pub bits_of-or : (a b word x y : ℕ) → a + b ≤ word → x < 2 ^ a → y < 2 ^ b → bits_of (a + b) (bit_or (x * 2 ^ b % 2 ^ word) y) ≡ bits_of a x ++ bits_of b y
+pub bits_of-or : (a b word x y : ℕ) → a + b ≤ word → x < 2 ^ a → y < 2 ^ b
+    → bits_of (a + b) (bit_or (x * 2 ^ b % 2 ^ word) y) ≡ bits_of a x ++ bits_of b y
 bits_of-or a b word x y fits x_small y_small =
     rw (or_after_shl a b word x y fits x_small y_small) (bits_of-beside a b x y y_small)
 
-pub or-below : (a b word x y : ℕ) → a + b ≤ word → x < 2 ^ a → y < 2 ^ b → bit_or (x * 2 ^ b % 2 ^ word) y < 2 ^ (a + b)
+pub or-below : (a b word x y : ℕ) → a + b ≤ word → x < 2 ^ a → y < 2 ^ b
+    → bit_or (x * 2 ^ b % 2 ^ word) y < 2 ^ (a + b)
 or-below a b word x y fits x_small y_small =
     let power : 2 ^ (a + b) ≡ 2 ^ a * 2 ^ b = pow-add 2 a b in
     let top : (x + 1) * 2 ^ b ≤ 2 ^ a * 2 ^ b = grind arith in
     rw (or_after_shl a b word x y fits x_small y_small) (omega (arith, power, top))
 
 -- the two parts of a word
-pub bits_of-parts : (a b n : ℕ) → (bits_of a (n / 2 ^ b) ≡ take a (bits_of (a + b) n)) × (bits_of b (bit_and n (2 ^ b - 1)) ≡ drop a (bits_of (a + b) n))
+pub bits_of-parts : (a b n : ℕ)
+    → (bits_of a (n / 2 ^ b) ≡ take a (bits_of (a + b) n)) × (bits_of b (bit_and n (2 ^ b - 1)) ≡ drop a (bits_of (a + b) n))
 bits_of-parts a b n = (
   sym (take-bits_of a b n),
   ap (bits_of b) (and_mask n b) ∙ (bits_of-mod b n b (omega arith) ∙ sym (drop-bits_of a b n)),

@@ -1,5 +1,5 @@
 -- Bytes as bits.
-use Rattle.std.proofs.Common.{◌≡◌, ℕ, zero, suc, ◌+◌, ◌-◌, ◌*◌, ◌/◌, ◌%◌, ◌^◌, ◌<◌, ◌≤◌, List, [], ◌∷◌, ◌++◌, length, get_or, take, drop, refl, sym, ap, ◌∙◌, arith, mod-eq_of_lt}
+use Rattle.std.proofs.Common.{◌≡◌, ℕ, zero, suc, ◌+◌, ◌*◌, ◌/◌, ◌%◌, ◌^◌, ◌<◌, ◌≤◌, List, [], ◌∷◌, ◌++◌, length, get_or, take, drop, refl, sym, ap, ◌∙◌, arith, mod-eq_of_lt}
 use Rattle.std.specs.Int.{bit_at, byte_at, bytes_high_first, from_be_bytes, w64}
 use Rattle.std.proofs.lemmas.Nat.{mod-pow-add, pow-add, xor_lt}
 use Rattle.std.proofs.lemmas.Nat.Bits.{bit_at-lt}
@@ -42,7 +42,14 @@ unfolding bytes_of_bits
 bytes_high_first_is zero n = refl
 bytes_high_first_is (suc k) n =
     let next : 8 * suc k ≡ 8 + 8 * k = omega arith in
-    rw (next, take-bits_of 8 (8 * k) n, drop-bits_of 8 (8 * k) n, number_of-bits_of 8 (n / 2 ^ (8 * k)), byte_at_is k n, bytes_high_first_is k n) refl
+    rw (
+      next,
+      take-bits_of 8 (8 * k) n,
+      drop-bits_of 8 (8 * k) n,
+      number_of-bits_of 8 (n / 2 ^ (8 * k)),
+      byte_at_is k n,
+      bytes_high_first_is k n,
+    ) refl
 
 bits_of_bytes-append : (xs ys : List ℕ) → bits_of_bytes (xs ++ ys) ≡ bits_of_bytes xs ++ bits_of_bytes ys
 unfolding bits_of_bytes
@@ -61,7 +68,8 @@ abbrev number_of_bytes : List ℕ → ℕ → ℕ
 number_of_bytes bytes zero = 0
 number_of_bytes bytes (suc k) = number_of_bytes bytes k * 256 + get_or bytes k 0
 
-bits_of-number_of_bytes : (bytes : List ℕ) (k : ℕ) → ((i : ℕ) → get_or bytes i 0 < 256) → k ≤ length bytes → bits_of (8 * k) (number_of_bytes bytes k) ≡ bits_of_bytes (take k bytes)
+bits_of-number_of_bytes : (bytes : List ℕ) (k : ℕ) → ((i : ℕ) → get_or bytes i 0 < 256) → k ≤ length bytes
+    → bits_of (8 * k) (number_of_bytes bytes k) ≡ bits_of_bytes (take k bytes)
 unfolding bits_of_bytes bits_of
 bits_of-number_of_bytes bytes zero small within = refl
 bits_of-number_of_bytes bytes (suc k) small within =
@@ -75,10 +83,12 @@ bits_of-number_of_bytes bytes (suc k) small within =
     ∙ ap (λ z. z ++ bits_of 8 byte) (bits_of-number_of_bytes bytes k small (omega arith)))
 
 -- the bits of the number of eight bytes are those of the bytes
-pub bits_of-from_be_bytes : (bytes : List ℕ) (n : ℕ) → length bytes ≡ 8 → ((i : ℕ) → get_or bytes i 0 < 256) → n ≡ from_be_bytes w64 bytes → bits_of 64 n ≡ bits_of_bytes bytes
+pub bits_of-from_be_bytes : (bytes : List ℕ) (n : ℕ) → length bytes ≡ 8 → ((i : ℕ) → get_or bytes i 0 < 256)
+    → n ≡ from_be_bytes w64 bytes → bits_of 64 n ≡ bits_of_bytes bytes
 bits_of-from_be_bytes bytes n eight small is =
     let whole : from_be_bytes w64 bytes ≡ number_of_bytes bytes 8 = omega arith in
-    ap (bits_of 64) (is ∙ whole) ∙ (bits_of-number_of_bytes bytes 8 small (omega arith) ∙ ap bits_of_bytes (take_all 8 bytes (omega arith)))
+    ap (bits_of 64) (is ∙ whole)
+    ∙ (bits_of-number_of_bytes bytes 8 small (omega arith) ∙ ap bits_of_bytes (take_all 8 bytes (omega arith)))
 
 -- each number is 0 or 1
 abbrev pub AreBits : List ℕ → Type 0
@@ -121,7 +131,8 @@ AreBits-bits_of_bytes [] = tt
 AreBits-bits_of_bytes (b ∷ bs) = AreBits-append (bits_of 8 b) (bits_of_bytes bs) (AreBits-bits_of 8 b) (AreBits-bits_of_bytes bs)
 
 -- the bits of the number that bits make behind another number
-bits_of-number_from : (bits : List ℕ) (width n : ℕ) → AreBits bits → bits_of (width + length bits) (number_from n bits) ≡ bits_of width n ++ bits
+bits_of-number_from : (bits : List ℕ) (width n : ℕ) → AreBits bits
+    → bits_of (width + length bits) (number_from n bits) ≡ bits_of width n ++ bits
 unfolding number_from
 bits_of-number_from [] width n are = ap (λ k. bits_of k n) (omega arith) ∙ sym (append-nil (bits_of width n))
 bits_of-number_from (b ∷ bs) width n are =
@@ -130,13 +141,17 @@ bits_of-number_from (b ∷ bs) width n are =
     let push : bits_of (width + 1) (2 * n + b) ≡ bits_of width n ++ b ∷ [] =
     ap (bits_of (width + 1)) twice ∙ (bits_of-beside width 1 n b are.0 ∙ ap (λ x. bits_of width n ++ x) (bits_of-one b are.0)) in
     ap (λ k. bits_of k (number_from (2 * n + b) bs)) count
-    ∙ (bits_of-number_from bs (width + 1) (2 * n + b) are.1 ∙ (ap (λ x. x ++ bs) push ∙ append_assoc (bits_of width n) (b ∷ []) bs))
+    ∙ (bits_of-number_from bs (width + 1) (2 * n + b) are.1
+    ∙ (ap (λ x. x ++ bs) push ∙ append_assoc (bits_of width n) (b ∷ []) bs))
 
-bits_of-number_of : (bits : List ℕ) (width : ℕ) → length bits ≡ width → AreBits bits → bits_of width (number_of bits) ≡ bits
+bits_of-number_of : (bits : List ℕ) (width : ℕ) → length bits ≡ width → AreBits bits
+    → bits_of width (number_of bits) ≡ bits
 unfolding number_of bits_of
-bits_of-number_of bits width long are = ap (λ k. bits_of k (number_from 0 bits)) (sym long ∙ omega arith) ∙ bits_of-number_from bits 0 0 are
+bits_of-number_of bits width long are =
+    ap (λ k. bits_of k (number_from 0 bits)) (sym long ∙ omega arith) ∙ bits_of-number_from bits 0 0 are
 
-pub bits_of_bytes-bytes_of_bits : (k : ℕ) (bits : List ℕ) → length bits ≡ 8 * k → AreBits bits → bits_of_bytes (bytes_of_bits k bits) ≡ bits
+pub bits_of_bytes-bytes_of_bits : (k : ℕ) (bits : List ℕ) → length bits ≡ 8 * k → AreBits bits
+    → bits_of_bytes (bytes_of_bits k bits) ≡ bits
 unfolding bits_of_bytes bytes_of_bits
 bits_of_bytes-bytes_of_bits zero bits long are = sym (nil_from_length bits long)
 bits_of_bytes-bytes_of_bits (suc k) bits long are =
@@ -145,7 +160,8 @@ bits_of_bytes-bytes_of_bits (suc k) bits long are =
     let rest = bits_of_bytes-bytes_of_bits k (drop 8 bits) (length-drop 8 bits ∙ omega arith) (AreBits-drop 8 bits are) in
     rw (first, rest) (take-append-drop 8 bits)
 
-pub bytes_of_bits-bits_of_bytes : (bytes : List ℕ) (k : ℕ) → length bytes ≡ k → ((i : ℕ) → get_or bytes i 0 < 256) → bytes_of_bits k (bits_of_bytes bytes) ≡ bytes
+pub bytes_of_bits-bits_of_bytes : (bytes : List ℕ) (k : ℕ) → length bytes ≡ k
+    → ((i : ℕ) → get_or bytes i 0 < 256) → bytes_of_bits k (bits_of_bytes bytes) ≡ bytes
 unfolding bits_of_bytes bytes_of_bits
 bytes_of_bits-bits_of_bytes [] zero long small = refl
 bytes_of_bits-bits_of_bytes [] (suc k) long small = absurd (omega arith)

@@ -38,7 +38,7 @@ after_rounds [] left right = right ++ left
 after_rounds (key ∷ keys) left right = after_rounds keys right (exclusive_or left (cipher_function right key))
 
 -- the preoutput: a permuted block after a round for each key (FIPS 46-3, Enciphering)
-abbrev pub preoutput : List (List ℕ) → List ℕ → List ℕ
+unfoldable pub preoutput : List (List ℕ) → List ℕ → List ℕ
 preoutput keys block = after_rounds keys (take 32 block) (drop 32 block)
 
 -- the output block for an input block and round keys in the order of their use (FIPS 46-3, Enciphering)

@@ -8,5 +8,7 @@ pub returns : goal.returns
 unfolding des_back_bytes des_back
 returns c =
     let scheduled = c.round_keys-keys.ensures ∙ ap round_keys c.word_of.ensures in
-    let keys = ap (map (bits_of 48)) c.reverse.ensures.after ∙ (map-reverse (bits_of 48) c.round_keys-keys.result ∙ ap reverse scheduled) in
+    let keys =
+    ap (map (bits_of 48)) c.reverse.ensures.after
+    ∙ (map-reverse (bits_of 48) c.round_keys-keys.result ∙ ap reverse scheduled) in
     c.block_of.ensures ∙ ap (bytes_of_bits 8) (c.output_block.ensures ∙ same_two output_block keys c.word_of-2.ensures)

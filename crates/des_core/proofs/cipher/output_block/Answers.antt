@@ -8,4 +8,5 @@ pub returns : goal.returns
 unfolding output_block
 returns c =
     let keys = map (bits_of 48) c.args.keys.now in
-    c.permute.ensures.bits ∙ ap (bits_by_table final_permutation) (c.preoutput.ensures ∙ ap (preoutput keys) c.permute-permuted.ensures.bits)
+    c.permute.ensures.bits
+    ∙ ap (bits_by_table final_permutation) (c.preoutput.ensures ∙ ap (preoutput keys) c.permute-permuted.ensures.bits)

@@ -11,5 +11,7 @@ loop-place-init c = record { bits = refl; bound = omega arith }
 pub loop-place-preserved : goal.loop-place-preserved
 loop-place-preserved c =
     let l = c.loop-place in
-    let step = permute_step c.args.width c.args.word c.args.table.now l.place-index l.out c.requires.places (omega arith) c.requires.few l.invariant.bits l.invariant.bound in
+    let step =
+    permute_step c.args.width c.args.word c.args.table.now l.place-index l.out c.requires.places (omega arith) c.requires.few
+    l.invariant.bits l.invariant.bound in
     record { bits = step.0; bound = step.1 }

@@ -11,4 +11,5 @@ unfolding cipher_function
 returns c =
     let key = bits_of 48 c.args.key in
     let mixed = bits_of-xor 48 c.permute-wide.result c.args.key ∙ ap (λ x. exclusive_or x key) c.permute-wide.ensures.bits in
-    c.permute.ensures.bits ∙ ap (bits_by_table round_permutation) (c.select-selected.ensures ∙ ap (selections selection_functions) mixed)
+    c.permute.ensures.bits
+    ∙ ap (bits_by_table round_permutation) (c.select-selected.ensures ∙ ap (selections selection_functions) mixed)

@@ -1,11 +1,12 @@
 use Rattle.std.proofs.Common.{ap, arith, ◌∙◌, ◌+◌, map, drop}
 use Rattle.des_core.specs.Bits.{bits_of, exclusive_or}
-use Rattle.des_core.specs.Des.{after_rounds}
+use Rattle.des_core.specs.Des.{after_rounds, preoutput}
 use Rattle.des_core.proofs.BitLemmas.{bits_of-xor, bits_of-parts, bits_of-or}
 use Rattle.des_core.proofs.RoundLemmas.{after_rounds-drop, after_rounds_end, same_two}
 use Rattle.des_core.proofs.rounds.preoutput.Goals as goal
 
 pub loop-key-init : goal.loop-key-init
+unfolding preoutput
 loop-key-init c =
     let parts = bits_of-parts 32 32 c.args.block in
     same_two (after_rounds (map (bits_of 48) c.args.keys.now)) parts.0 parts.1

@@ -1,4 +1,4 @@
-use Rattle.std.proofs.Common.{◌≡◌, ◌-◌, ◌*◌, ◌/◌, ◌%◌, ◌^◌, refl, ap, arith, ◌∙◌}
+use Rattle.std.proofs.Common.{◌-◌, ◌*◌, ◌/◌, ◌^◌, refl, ap, arith, ◌∙◌}
 use Rattle.std.proofs.lemmas.Nat.{and_mask}
 use Rattle.des_core.specs.Bits.{bits_of}
 use Rattle.des_core.specs.Des.{row_of, column_of}
@@ -20,8 +20,10 @@ loop-i-preserved c =
     let six = and_mask (word / 2 ^ (42 - 6 * i)) 6 in
     let row_is = c.row_of.ensures.row ∙ ap (λ s. row_of (bits_of 6 s)) six in
     let column_is = c.column_of.ensures.column ∙ ap (λ s. column_of (bits_of 6 s)) six in
-    let step = select_step selection_functions i word c.loop-i.out (entry_at selection_functions i row column) refl c.loop-i-test.true
-    (entry_small selection_functions i row column refl) c.loop-i.invariant.bound (same_two (entry_at selection_functions i) row_is column_is) in
+    let same_entry = same_two (entry_at selection_functions i) row_is column_is in
+    let step =
+    select_step selection_functions i word c.loop-i.out (entry_at selection_functions i row column) refl c.loop-i-test.true
+    (entry_small selection_functions i row column refl) c.loop-i.invariant.bound same_entry in
     record { bits = step.0 ∙ c.loop-i.invariant.bits; bound = step.1 }
 
 pub returns : goal.returns
