@@ -1,0 +1,5 @@
+pub mod Bits
+pub mod Permutations
+pub mod KeyTables
+pub mod SelectionFunctions
+pub mod Des

@@ -1,0 +1,50 @@
+//! Laws of the cipher. Each is a function with nothing to do: that its contract is proved is the law.
+ghost use Rattle.std.specs.Prelude.{◌≡◌};
+ghost use Rattle.des_core.specs.Permutations.{
+  initial_permutation,
+  final_permutation,
+  bit_selection,
+  round_permutation,
+};
+ghost use Rattle.des_core.specs.KeyTables.{permuted_choice_1, permuted_choice_2, left_shifts};
+ghost use Rattle.des_core.specs.SelectionFunctions.{selection_functions};
+ghost use Rattle.des_core.specs.Des.{des_bytes, des_back_bytes, des_number};
+
+use crate::tables::{
+    BIT_SELECTION, FINAL_PERMUTATION, INITIAL_PERMUTATION, LEFT_SHIFTS, PERMUTED_CHOICE_1,
+    PERMUTED_CHOICE_2, ROUND_PERMUTATION, SELECTION_FUNCTIONS,
+};
+use pad_words::Block;
+
+/// The tables that the code reads are the printed ones of the definition, entry by entry. The check computes both sides,
+/// so that an entry that is changed on one side alone is refused here.
+pub fn tables_are_those_of_the_standard()
+    ensures initial_permutation { INITIAL_PERMUTATION ≡ initial_permutation }
+    ensures final_permutation { FINAL_PERMUTATION ≡ final_permutation }
+    ensures bit_selection { BIT_SELECTION ≡ bit_selection }
+    ensures round_permutation { ROUND_PERMUTATION ≡ round_permutation }
+    ensures permuted_choice_1 { PERMUTED_CHOICE_1 ≡ permuted_choice_1 }
+    ensures permuted_choice_2 { PERMUTED_CHOICE_2 ≡ permuted_choice_2 }
+    ensures left_shifts { LEFT_SHIFTS ≡ left_shifts }
+    ensures selection_functions { SELECTION_FUNCTIONS ≡ selection_functions }
+{}
+
+/// For every key, deciphering undoes enciphering.
+pub fn decryption_undoes_encryption(key: Block, x: Block)
+    ensures { des_back_bytes key.0 (des_bytes key.0 x.0) ≡ x.0 }
+{}
+
+/// For every key, enciphering undoes deciphering.
+pub fn encryption_undoes_decryption(key: Block, x: Block)
+    ensures { des_bytes key.0 (des_back_bytes key.0 x.0) ≡ x.0 }
+{}
+
+/// Four published answers, computed by the definition alone, with no code: key, block and answer as numbers of 64 bits.
+pub fn known_answers()
+    ensures worked_example { des_number 0x133457799BBCDFF1 0x0123456789ABCDEF ≡ 0x85E813540F0AB405 }
+    ensures answer_of_zeros { des_number 0x0E329232EA6D0D73 0x8787878787878787 ≡ 0x0000000000000000 }
+    ensures key_and_block_of_zeros { des_number 0 0 ≡ 0x8CA64DE9C1B123A7 }
+
+    // the first eight letters of "Now is the time for all ", the text of FIPS 81's examples
+    ensures text_of_fips_81 { des_number 0x0123456789ABCDEF 0x4E6F772069732074 ≡ 0x3FA40E8A984D4815 }
+{}
