@@ -5,7 +5,7 @@ ghost use Rattle.pad_steps.specs.Formed.{is_well_formed, is_well_formed_command}
 ghost use Rattle.script_lang.specs.Words.{hex_digit, word_text, spaced};
 ghost use Rattle.script_lang.specs.Spelling.{four_values, mask_word, rules_words, command_words, step_text, end_text};
 
-use crate::writing::{write_classes, write_key, write_number, write_word};
+use crate::writing::{hex_digit, write_classes, write_key, write_number, write_word};
 use key_source::Mask;
 use pad_steps::{Command, EntryRules, Step};
 use pad_words::{NoMemory, Octets, Session};
@@ -24,14 +24,6 @@ fn put_session(alloc: Global, session: &Session, text: &mut Octets) -> Result<()
     ensures { OnOk result (text.new ≡ text.old ++ 32 ∷ decimal session.now.number) }
 {
     put_number(alloc, u32::from(session.get()), text)
-}
-
-// the hexadecimal digit of a half byte
-fn hex_digit(v: u8) -> u8
-    requires { v < 16 }
-    ensures { result ≡ hex_digit v }
-{
-    if v < 10 { b'0' + v } else { b'A' + (v - 10) }
 }
 
 // the four hexadecimal digits of a number of 16 bits

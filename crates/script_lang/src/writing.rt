@@ -1,7 +1,8 @@
 //! Words and steps put behind a text. After want of memory the text is as before.
-ghost use Rattle.std.specs.Prelude.{◌≡◌, ◌++◌, OnOk, OnErr, IsTrue, codes};
+ghost use Rattle.std.specs.Prelude.{◌≡◌, ◌<◌, ◌++◌, OnOk, OnErr, IsTrue, codes};
 ghost use Rattle.std.specs.Fmt.{decimal};
 ghost use Rattle.pad_steps.specs.Formed.{is_well_formed};
+ghost use Rattle.script_lang.specs.Words.{hex_digit};
 ghost use Rattle.script_lang.specs.Spelling.{key_text, classes_text, unless_masked, shown_text};
 
 use crate::composing::put_step;
@@ -9,6 +10,18 @@ use key_source::Key;
 use pad_steps::{Classes, Step};
 use pad_words::{NoMemory, Octets};
 use std::alloc::Global;
+
+/// The hexadecimal digit of a half byte, in upper case.
+pub fn hex_digit(value: u8) -> u8
+    requires { value < 16 }
+    ensures { result ≡ hex_digit value }
+{
+    if value < 10 {
+        b'0' + value
+    } else {
+        b'A' + (value - 10)
+    }
+}
 
 /// Puts this word last.
 pub fn write_word(word: &str, text: &mut Octets) -> Result<(), NoMemory>

@@ -6,7 +6,7 @@ ghost use Rattle.script_lang.specs.Words.{hex_digit};
 ghost use Rattle.transcript.specs.Values.{yes_no_text, digits_text, check_text};
 
 use pad_words::{NoMemory, Octets, Session};
-use script_lang::writing::{write_number, write_word};
+use script_lang::writing::{hex_digit, write_number, write_word};
 use std::alloc::Global;
 
 pub fn put_session(alloc: Global, session: &Session, text: &mut Octets) -> Result<(), NoMemory>
@@ -29,18 +29,6 @@ pub fn put_yes_no(yes: bool, text: &mut Octets) -> Result<(), NoMemory>
     ensures { OnOk result (text.new ≡ text.old ++ yes_no_text yes) }
 {
     write_word(if yes { "yes" } else { "no" }, text)
-}
-
-// the digit of a value below 16
-fn hex_digit(value: u8) -> u8
-    requires { value < 16 }
-    ensures { result ≡ hex_digit value }
-{
-    if value < 10 {
-        b'0' + value
-    } else {
-        b'A' + (value - 10)
-    }
 }
 
 #[tactic(auto, unfolding(crate::specs::Values::digits_text))]
