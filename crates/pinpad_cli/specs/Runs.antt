@@ -1,7 +1,7 @@
 -- The steps of a script, and the text of a run.
-use Rattle.std.specs.Prelude.{Bool, List, None, Option, Some, [], false, length, true, ℕ, ◌++◌, ◌∷◌}
+use Rattle.std.specs.Prelude.{Bool, List, None, Option, Some, [], false, is_none, length, true, ℕ, ◌++◌, ◌∷◌}
 use Rattle.flat_machine.specs.Machine.{Act, lines_from, next, next_work}
-use Rattle.flat_machine.specs.State.{Flat, ready_opening}
+use Rattle.flat_machine.specs.State.{Flat, Public, ready_opening}
 use Rattle.flat_machine.specs.Works.{Setting}
 use Rattle.pad_steps.specs.declared.steps.DiskWord.{DiskWord}
 use Rattle.pad_steps.specs.declared.steps.Step.{Step}
@@ -22,6 +22,11 @@ stopped = record { acts = []; whole = false }
 -- these steps, and then those
 abbrev pub with_acts : List Act → Played → Played
 with_acts acts played = record { acts = acts ++ played.acts; whole = played.whole }
+
+-- no step of the line is left where one of them was taken: none is due after `auto`
+abbrev pub is_over : Line → Public → Bool
+is_over line.Auto public = is_none (next_work public)
+is_over (line.Do step) public = true
 
 -- what is played from a state, given the words that the disk will say
 abbrev pub Player : Type 0

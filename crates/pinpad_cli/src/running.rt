@@ -9,7 +9,7 @@ ghost use Rattle.pad_machine.specs.Stands.{StandsFor, draws, work_left};
 ghost use Rattle.pad_steps.specs.Formed.{is_well_formed};
 ghost use Rattle.pinpad_cli.specs.Cuts.{IsBuilt};
 ghost use Rattle.pinpad_cli.specs.Parts.{Ran, BrokeOff};
-ghost use Rattle.pinpad_cli.specs.Runs.{Player, step_then, auto_then, line_then, play};
+ghost use Rattle.pinpad_cli.specs.Runs.{Player, auto_then, is_over, line_then, play, step_then};
 
 use disk_core::{Counted, Sink};
 use pad_machine::Pad;
@@ -186,7 +186,9 @@ pub fn run_lines<K: Sink>(
 }
 
 // Whether all steps of the line that was begun are taken.
-fn is_run(pad: &Pad, line: &Line) -> bool {
+fn is_run(pad: &Pad, line: &Line) -> bool
+    ensures { result ≡ is_over line.now pad.now.public }
+{
     match line {
         Line::Auto => pad.next_work().is_none(),
         Line::Do(_) => true,
