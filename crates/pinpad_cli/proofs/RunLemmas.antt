@@ -1,9 +1,10 @@
 -- Parts of a run, one after another.
+use Rattle.script_lang.specs.declared.kinds.Line.TheVariants as lines
 use Rattle.std.proofs.Common.{ap, append-nil, append_assoc, arith, get_or, length-append, subst, sym, ◌∙◌}
 use Rattle.std.proofs.lemmas.Grind.{common_steps}
-use Rattle.std.proofs.lemmas.List.{drop_more, take-append-le}
+use Rattle.std.proofs.lemmas.List.{drop_more, take-append-le, take_more}
 use Rattle.std.proofs.Math.Seq.{take-append-add}
-use Rattle.std.specs.Prelude.{Bool, List, None, Option, Some, [], drop, length, refl, take, true, ℕ, ◌++◌, ◌+◌, ◌<◌, ◌∷◌, ◌≡◌}
+use Rattle.std.specs.Prelude.{Bool, List, None, Option, Some, [], drop, length, refl, take, true, ℕ, ◌++◌, ◌+◌, ◌<◌, ◌∷◌, ◌≡◌, Err, IfErr, Ok, Result, is_none}
 use Rattle.disk_core.specs.Streams.{GivesFront, with_more}
 use Rattle.flat_machine.specs.Kept.{Kept}
 use Rattle.flat_machine.specs.Machine.{Act, line_of, masked, next, next_work}
@@ -16,8 +17,8 @@ use Rattle.pad_steps.specs.declared.steps.DiskWord.{DiskWord}
 use Rattle.pad_steps.specs.declared.steps.DiskWord.TheVariants.{Quiet}
 use Rattle.pad_steps.specs.declared.steps.Fate.{Fate}
 use Rattle.pad_steps.specs.declared.steps.Step.{Step}
-use Rattle.pinpad_cli.specs.Parts.{BrokeOff, Ran}
-use Rattle.pinpad_cli.specs.Runs.{Played, Player, auto_then, line_then, play, step_then, text_from, with_acts}
+use Rattle.pinpad_cli.specs.Parts.{BrokeOff, PlaysFront, Ran, Took}
+use Rattle.pinpad_cli.specs.Runs.{Played, Player, auto_then, line_then, play, play_end, play_then, step_then, text_from, with_acts, is_over}
 use Rattle.script_lang.specs.declared.kinds.Line.{Line}
 use Rattle.transcript.specs.PrintedLines.{line_of_step, line_text}
 
@@ -52,6 +53,18 @@ front-longer given now text more all is front = (
   omega (arith, front.1, length-append text more, ap length is),
   front.2 ∙ ap (with_more given) (sym (take-append-le front.0 text more front.1) ∙ ap (take front.0) is),
 )
+
+-- where no step is due after `auto`, none is due in any state that the pad stands for
+is_none-true : (found : Option Step) → is_none found ≡ true → found ≡ None
+is_none-true None is = refl
+is_none-true (Some step) is = cc
+
+pub next_work-over : (line : Line) (kept : Kept) (state : Flat) → line ≡ lines.Auto → is_over line kept.public ≡ true → StandsFor kept state → next_work state.public ≡ None
+next_work-over line kept state is over stands = is_none-true (next_work state.public) (sym (ap (λ (k : Kept). is_none (next_work k.public)) stands) ∙ rw is at over)
+
+pub if_err-then : {T E : Type 0} (result : Result T E) {P Q : E → Type 0} → ((error : E) → P error → Q error) → IfErr result P → IfErr result Q
+if_err-then (Ok value) follows holds = tt
+if_err-then (Err error) follows holds = follows error holds
 
 -- what the code prints of a step is the machine's line
 pub line_of_step-is : (set : Setting) (state : Flat) (step : Step) (word : DiskWord) (is_masked : Bool) (outs : List Out) → word ≡ Quiet → is_masked ≡ masked state.public step → outs ≡ (next set state step word).outs
@@ -161,6 +174,68 @@ module _ (set : Setting) where
   play-more lines place line lt is state words =
       ap (λ (rest : List Line). play set rest state words) (drop_more lines place line lt)
       ∙ ap (λ (first : Line). line_then set first (play set (drop (place + 1) lines)) state words) (sym is)
+
+  -- the same of what was taken, whatever was printed
+  pub took-ran : (state : Flat) (whole rest : Player) (kept : Kept) (words told : List DiskWord) (given now : Option (List ℕ)) → Ran set state whole rest kept words told given now → Took set state whole rest kept words told
+  took-ran state whole rest kept words told given now ran = record { state = ran.state; stands = ran.stands; more = ran.more; told_more = ran.told_more; done = ran.done; played = ran.played }
+
+  pub took-none : (state : Flat) (player : Player) (kept : Kept) (words : List DiskWord) → StandsFor kept state → Took set state player player kept words words
+  took-none state player kept words stands = record { state = state; stands = stands; more = []; told_more = sym (append-nil words); done = []; played = λ tail. refl }
+
+  pub took-step : (state : Flat) (rest : Player) (kept : Kept) (words told : List DiskWord) (step : Step) (word : DiskWord) → StandsFor kept (next set state step word).state → told ≡ words ++ word ∷ [] → Took set state (step_then set step rest) rest kept words told
+  took-step state rest kept words told step word stands told_is = record { state = (next set state step word).state; stands = stands; more = word ∷ []; told_more = told_is; done = record { step = step; word = word } ∷ []; played = λ tail. refl }
+
+  pub took-then : (start : Flat) (whole between rest : Player) (one two : Kept) (words told_one told_two : List DiskWord)
+      → Took set start whole between one words told_one → ((state : Flat) → StandsFor one state → Took set state between rest two told_one told_two) → Took set start whole rest two words told_two
+  took-then start whole between rest one two words told_one told_two first goes_on =
+      let second : Took set first.state between rest two told_one told_two = goes_on first.state first.stands in
+      record {
+        state = second.state;
+        stands = second.stands;
+        more = first.more ++ second.more;
+        told_more = second.told_more ∙ ap (λ (told : List DiskWord). told ++ second.more) first.told_more ∙ append_assoc words first.more second.more;
+        done = first.done ++ second.done;
+        played = λ tail.
+            ap (whole start) (append_assoc first.more second.more tail) ∙ first.played (second.more ++ tail) ∙ ap (with_acts first.done) (second.played tail)
+            ∙ ap (λ (acts : List Act). record { acts = acts; whole = (rest second.state tail).whole }) (sym (append_assoc first.done second.done (rest second.state tail).acts));
+      }
+
+  pub took-as : (state : Flat) (one two rest : Player) (kept : Kept) (words told : List DiskWord) → Took set state one rest kept words told → ((ws : List DiskWord) → two state ws ≡ one state ws) → Took set state two rest kept words told
+  took-as state one two rest kept words told took same = record { state = took.state; stands = took.stands; more = took.more; told_more = took.told_more; done = took.done; played = λ tail. same (took.more ++ tail) ∙ took.played tail }
+
+  pub took-over : (state : Flat) (whole one two : Player) (kept : Kept) (words told : List DiskWord) → Took set state whole one kept words told → ((later : Flat) (ws : List DiskWord) → StandsFor kept later → one later ws ≡ two later ws) → Took set state whole two kept words told
+  took-over state whole one two kept words told took same = record { state = took.state; stands = took.stands; more = took.more; told_more = took.told_more; done = took.done; played = λ tail. took.played tail ∙ ap (with_acts took.done) (same took.state tail took.stands) }
+
+  -- lines and one more
+  play_then-snoc : (lines : List Line) (line : Line) (rest : Player) → play_then set (lines ++ line ∷ []) rest ≡ play_then set lines (line_then set line rest)
+  play_then-snoc [] line rest = refl
+  play_then-snoc (first ∷ lines) line rest = ap (line_then set first) (play_then-snoc lines line rest)
+
+  pub took-line : (lines : List Line) (place : ℕ) (line : Line) (start : Flat) (rest : Player) (one two : Kept) (words told_one told_two : List DiskWord) → place < length lines → line ≡ get_or lines place line
+      → Took set start (play_then set (take place lines) (line_then set line rest)) (line_then set line rest) one words told_one
+      → ((state : Flat) → StandsFor one state → Took set state (line_then set line rest) rest two told_one told_two)
+      → Took set start (play_then set (take (place + 1) lines) rest) rest two words told_two
+  took-line lines place line start rest one two words told_one told_two lt is before goes_on =
+      subst (λ (whole : Player). Took set start whole rest two words told_two)
+      (sym (ap (λ (all : List Line). play_then set all rest) (take_more lines place line lt ∙ ap (λ (last : Line). take place lines ++ last ∷ []) (sym is)) ∙ play_then-snoc (take place lines) line rest))
+      (took-then start (play_then set (take place lines) (line_then set line rest)) (line_then set line rest) rest one two words told_one told_two before goes_on)
+
+  -- the words of the lines that were taken are a front of all words
+  pub front-took : (lines : List Line) (state : Flat) (kept : Kept) (words told : List DiskWord) → Took set state (play_then set lines play_end) play_end kept words told → PlaysFront set state lines words told
+  front-took lines state kept words told took = record {
+    front = took.more;
+    back = [];
+    parts = took.told_more ∙ ap (λ (more : List DiskWord). words ++ more) (sym (append-nil took.more));
+    whole = ap (λ (played : Played). played.whole) (ap (play_then set lines play_end state) (sym (append-nil took.more)) ∙ took.played []);
+  }
+
+  pub front-more : (lines : List Line) (state : Flat) (kept : Kept) (words told all more : List DiskWord) → Took set state (play_then set lines play_end) play_end kept words told → all ≡ told ++ more → PlaysFront set state lines words all
+  front-more lines state kept words told all more took all_is = record {
+    front = took.more;
+    back = more;
+    parts = all_is ∙ ap (λ (w : List DiskWord). w ++ more) took.told_more ∙ append_assoc words took.more more;
+    whole = ap (λ (played : Played). played.whole) (ap (play_then set lines play_end state) (sym (append-nil took.more)) ∙ took.played []);
+  }
 
   -- a run to the end
   pub record Finished (words : List DiskWord) (played : Played) (given now : Option (List ℕ)) : Type 0 where

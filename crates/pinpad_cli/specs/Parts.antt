@@ -1,5 +1,5 @@
 -- A part of a run, as the code takes it.
-use Rattle.std.specs.Prelude.{List, Option, ℕ, ◌++◌, ◌≡◌}
+use Rattle.std.specs.Prelude.{List, Option, true, ℕ, ◌++◌, ◌≡◌}
 use Rattle.disk_core.specs.Streams.{GivesFront, with_more}
 use Rattle.flat_machine.specs.Kept.{Kept}
 use Rattle.flat_machine.specs.Machine.{Act}
@@ -7,7 +7,8 @@ use Rattle.flat_machine.specs.State.{Flat}
 use Rattle.flat_machine.specs.Works.{Setting}
 use Rattle.pad_machine.specs.Stands.{StandsFor}
 use Rattle.pad_steps.specs.declared.steps.DiskWord.{DiskWord}
-use Rattle.pinpad_cli.specs.Runs.{Player, text_from, with_acts}
+use Rattle.pinpad_cli.specs.Runs.{Player, play, text_from, with_acts}
+use Rattle.script_lang.specs.declared.kinds.Line.{Line}
 
 -- From a state the machine played the front of a whole, and a rest is left to play. All of its text was given.
 pub record Ran (setting : Setting) (before : Flat) (whole rest : Player) (kept : Kept) (words told : List DiskWord) (given now : Option (List ℕ)) : Type 0 where
@@ -26,3 +27,19 @@ pub record BrokeOff (setting : Setting) (before : Flat) (whole : Player) (words 
   pub more : List DiskWord
   pub told_more : told ≡ words ++ more
   pub front : GivesFront given now (text_from setting before (whole before more).acts)
+
+-- From a state the machine played the front of a whole, and a rest is left to play, whatever was printed.
+pub record Took (setting : Setting) (before : Flat) (whole rest : Player) (kept : Kept) (words told : List DiskWord) : Type 0 where
+  pub state : Flat
+  pub stands : StandsFor kept state
+  pub more : List DiskWord
+  pub told_more : told ≡ words ++ more
+  pub done : List Act
+  pub played : (tail : List DiskWord) → whole before (more ++ tail) ≡ with_acts done (rest state tail)
+
+-- Of the words told, a front is one for each step of these lines; what is left belongs to a line after them.
+pub record PlaysFront (setting : Setting) (before : Flat) (lines : List Line) (words told : List DiskWord) : Type 0 where
+  pub front : List DiskWord
+  pub back : List DiskWord
+  pub parts : told ≡ words ++ (front ++ back)
+  pub whole : (play setting lines before front).whole ≡ true

@@ -64,10 +64,14 @@ module _ (setting : Setting) where
   line_then line.Auto rest = auto_then rest
   line_then (line.Do step) rest = step_then step rest
 
-  -- lines, one after the other
+  -- lines, one after the other, and then the rest
+  abbrev pub play_then : List Line → Player → Player
+  play_then [] rest = rest
+  play_then (first ∷ lines) rest = line_then first (play_then lines rest)
+
+  -- lines, one after the other, and nothing more
   abbrev pub play : List Line → Player
-  play [] = play_end
-  play (first ∷ lines) = line_then first (play lines)
+  play lines = play_then lines play_end
 
   -- the lines of a script from the opening state, where it has lines
   abbrev pub play_lines : Option (List Line) → List DiskWord → Played

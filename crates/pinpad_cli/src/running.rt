@@ -1,5 +1,5 @@
 // A script run line by line, and printed.
-ghost use Rattle.std.specs.Prelude.{◌≡◌, ◌<◌, ◌≤◌, ◌+◌, ◌-◌, ◌^◌, All, IfErr, IfNone, IsTrue, OnErr, OnOk, OnSome, Some, [], false, length};
+ghost use Rattle.std.specs.Prelude.{◌≡◌, ◌<◌, ◌≤◌, ◌+◌, ◌-◌, ◌^◌, All, IfErr, IfNone, IsTrue, OnErr, OnOk, OnSome, Some, [], false, length, take, true};
 ghost use Rattle.disk_core.specs.Causes.{Rose};
 ghost use Rattle.disk_core.specs.CountedSinks.{counted_given, counted_faults};
 ghost use Rattle.flat_machine.specs.Machine.{next_work};
@@ -8,7 +8,7 @@ ghost use Rattle.flat_machine.specs.Works.{Setting};
 ghost use Rattle.pad_machine.specs.Stands.{StandsFor, draws, work_left};
 ghost use Rattle.pad_steps.specs.Formed.{is_well_formed};
 ghost use Rattle.pinpad_cli.specs.Cuts.{IsBuilt};
-ghost use Rattle.pinpad_cli.specs.Parts.{Ran, BrokeOff};
+ghost use Rattle.pinpad_cli.specs.Parts.{BrokeOff, PlaysFront, Ran, Took};
 ghost use Rattle.pinpad_cli.specs.Runs.{Player, auto_then, is_over, line_then, play, step_then};
 
 use disk_core::{Counted, Sink};
@@ -50,6 +50,8 @@ pub fn run_step<K: Sink>(
         BrokeOff setting state (step_then setting step.now rest) words.old.items words.new.items (counted_given K.given sink.old) (counted_given K.given sink.new)) }
     ensures later { counted_faults K.faults sink.old ≤ counted_faults K.faults sink.new }
     ensures cause { IfErr result (λ stop. stop.fault ≡ Fault.Failed → Rose (counted_faults K.faults sink.old) (counted_faults K.faults sink.new)) }
+    ensures taken { IfErr result (λ stop. stop.taken ≡ true → (setting : Setting) (state : Flat) (rest : Player) → StandsFor pad.old state →
+        Took setting state (step_then setting step.now rest) rest pad.new words.old.items words.new.items) }
     ensures less { OnOk result (is_off pad.old.public.device ≡ false → next_work pad.old.public ≡ Some step.now → work_left pad.new.public.requests < work_left pad.old.public.requests) }
     ensures ids { OnOk result (length pad.new.public.requests ≤ length pad.old.public.requests + draws step.now) }
 {
@@ -80,7 +82,8 @@ pub fn run_step<K: Sink>(
 
 // Memory was wanting before a step was taken.
 fn not_taken() -> Break
-    ensures { result.fault ≡ Fault.NoMemory }
+    ensures fault { result.fault ≡ Fault.NoMemory }
+    ensures taken { result.taken ≡ false }
 {
     Break {
         fault: Fault::NoMemory,
@@ -102,6 +105,8 @@ pub fn run_auto<K: Sink>(
         BrokeOff setting state (auto_then setting rest) words.old.items words.new.items (counted_given K.given sink.old) (counted_given K.given sink.new)) }
     ensures later { counted_faults K.faults sink.old ≤ counted_faults K.faults sink.new }
     ensures cause { IfErr result (λ stop. stop.fault ≡ Fault.Failed → Rose (counted_faults K.faults sink.old) (counted_faults K.faults sink.new)) }
+    ensures taken { IfErr result (λ stop. stop.taken ≡ true → (setting : Setting) (state : Flat) (rest : Player) → StandsFor pad.old state →
+        Took setting state (auto_then setting rest) (auto_then setting rest) pad.new words.old.items words.new.items) }
     ensures ids { OnOk result (length pad.new.public.requests ≤ length pad.old.public.requests) }
 {
     while let Some(step) = pad.next_work() {
@@ -129,6 +134,8 @@ pub fn run_line<K: Sink>(
         BrokeOff setting state (line_then setting line.now rest) words.old.items words.new.items (counted_given K.given sink.old) (counted_given K.given sink.new)) }
     ensures later { counted_faults K.faults sink.old ≤ counted_faults K.faults sink.new }
     ensures cause { IfErr result (λ stop. stop.fault ≡ Fault.Failed → Rose (counted_faults K.faults sink.old) (counted_faults K.faults sink.new)) }
+    ensures taken { IfErr result (λ stop. stop.taken ≡ true → is_over line.now pad.new.public ≡ true → (setting : Setting) (state : Flat) (rest : Player) → StandsFor pad.old state →
+        Took setting state (line_then setting line.now rest) rest pad.new words.old.items words.new.items) }
     ensures ids { OnOk result (length pad.new.public.requests ≤ length pad.old.public.requests + 1) }
 {
     match line {
@@ -160,6 +167,7 @@ pub fn run_lines<K: Sink>(
     ensures broke { OnSome result.fault ((setting : Setting) (state : Flat) → StandsFor pad.old state →
         BrokeOff setting state (play setting lines.now) words.old.items words.new.items (counted_given K.given sink.old) (counted_given K.given sink.new)) }
     ensures lines { result.lines ≤ length lines.now }
+    ensures front { (setting : Setting) (state : Flat) → StandsFor pad.old state → PlaysFront setting state (take result.lines lines.now) words.old.items words.new.items }
     ensures all { IfNone result.fault (result.lines ≡ length lines.now) }
     ensures later { counted_faults K.faults sink.old ≤ counted_faults K.faults sink.new }
     ensures cause { result.fault ≡ Some Fault.Failed → Rose (counted_faults K.faults sink.old) (counted_faults K.faults sink.new) }

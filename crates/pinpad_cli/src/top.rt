@@ -1,5 +1,5 @@
 // The whole of the program.
-ghost use Rattle.std.specs.Prelude.{◌≡◌, ◌≢◌, ◌≤◌, ◌↔◌, ◌⊎◌, IfNone, IfSome, IsNone, IsSome, List, None, OnSome, Some, [], false, length, true};
+ghost use Rattle.std.specs.Prelude.{◌≡◌, ◌≢◌, ◌≤◌, ◌↔◌, ◌⊎◌, IfNone, IfSome, IsNone, IsSome, List, None, OnSome, Some, [], false, length, take, true};
 ghost use Rattle.disk_core.specs.Causes.{Rose};
 ghost use Rattle.disk_core.specs.CountedSinks.{counted_given, counted_faults};
 ghost use Rattle.disk_core.specs.Streams.{with_more, GivesFront};
@@ -8,6 +8,7 @@ ghost use Rattle.flat_machine.specs.State.{ready_opening};
 ghost use Rattle.flat_machine.specs.Twins.{Twins};
 ghost use Rattle.flat_machine.specs.Works.{Setting};
 ghost use Rattle.pinpad_cli.specs.CommandLine.{is_replay as is_replay_form};
+ghost use Rattle.pinpad_cli.specs.Parts.{PlaysFront};
 ghost use Rattle.pinpad_cli.specs.Runs.{has_word_per_step, line_count, steps_of, text_of};
 ghost use Rattle.pinpad_cli.specs.Script.{lines_of};
 
@@ -71,7 +72,8 @@ pub fn run_pinpad<S: Source, K: Sink>(
     ensures outside_line { result.status ≡ 1 → result.line ≡ 0 }
     ensures inside { (result.status ≡ 0) ⊎ (result.status ≡ 4) → IfSome (S.left source.old) (λ script. IsSome (lines_of script)) }
 
-    // Never more lines are counted than there are.
+    // The lines that are counted are run whole: a front of the words is one for each of their steps.
+    ensures line_front { IfSome (S.left source.old) (λ script. (setting : Setting) → IfSome (lines_of script) (λ lines. PlaysFront setting ready_opening (take result.line lines) [] result.words)) }
     ensures line_within { IfSome (S.left source.old) (λ script. result.line ≤ line_count (lines_of script)) }
 
     // Each fault has its cause, and where the source failed nothing was run.
@@ -102,6 +104,7 @@ fn run_script<K: Sink>(alloc: Global, script: &[u8], sink: &mut Counted<K>) -> E
     ensures whole { result.status ≡ 0 → (setting : Setting) → has_word_per_step setting script.now result.words ≡ true }
     ensures lines { result.status ≡ 0 → result.line ≡ line_count (lines_of script.now) }
     ensures line_within { result.line ≤ line_count (lines_of script.now) }
+    ensures line_front { (setting : Setting) → IfSome (lines_of script.now) (λ lines. PlaysFront setting ready_opening (take result.line lines) [] result.words) }
     ensures printed { result.status ≡ 0 → (setting : Setting) → counted_given K.given sink.new ≡ with_more (counted_given K.given sink.old) (text_of setting (steps_of setting script.now result.words)) }
     ensures front { (setting : Setting) → GivesFront (counted_given K.given sink.old) (counted_given K.given sink.new) (text_of setting (steps_of setting script.now result.words)) }
     ensures cause { result.status ≡ 4 → Rose (counted_faults K.faults sink.old) (counted_faults K.faults sink.new) }

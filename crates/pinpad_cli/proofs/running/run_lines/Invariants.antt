@@ -1,15 +1,16 @@
-use Rattle.std.proofs.Common.{drop, length, ◌≡◌, ◌≤◌}
+use Rattle.std.proofs.Common.{drop, length, take, ◌≡◌, ◌≤◌}
 use Rattle.disk_core.specs.CountedSinks.{counted_faults, counted_given}
 use Rattle.flat_machine.specs.State.{Flat}
 use Rattle.flat_machine.specs.Works.{Setting}
 use Rattle.pad_machine.specs.Stands.{StandsFor}
-use Rattle.pinpad_cli.specs.Parts.{Ran}
-use Rattle.pinpad_cli.specs.Runs.{play}
+use Rattle.pinpad_cli.specs.Parts.{Ran, Took}
+use Rattle.pinpad_cli.specs.Runs.{Player, play, play_then}
 use Rattle.pinpad_cli.proofs.running.run_lines.Given as goal
 
 abbrev pub invariant-loop-line : goal.invariant-loop-line
 invariant-loop-line g l = record {
   ran : (set : Setting) (state : Flat) → StandsFor l.fn.pad state → Ran set state (play set l.lines) (play set (drop l.line-index l.lines)) l.pad l.fn.words.items l.words.items (counted_given g.K.Sink.given l.fn.sink) (counted_given g.K.Sink.given l.sink);
+  took : (set : Setting) (state : Flat) (rest : Player) → StandsFor l.fn.pad state → Took set state (play_then set (take l.line-index l.lines) rest) rest l.pad l.fn.words.items l.words.items;
   later : counted_faults g.K.Sink.faults l.fn.sink ≤ counted_faults g.K.Sink.faults l.sink;
   ids : length l.pad.public.requests ≤ l.line-index;
   count : l.count ≡ l.line-index;

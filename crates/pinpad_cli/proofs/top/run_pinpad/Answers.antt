@@ -1,5 +1,6 @@
+use Rattle.pinpad_cli.specs.Parts.{PlaysFront}
 use Rattle.std.proofs.Common.{ap, inl, subst, sym, ◌∙◌}
-use Rattle.std.specs.Prelude.{IsSome, List, None, Option, ◌≡◌, ◌≤◌}
+use Rattle.std.specs.Prelude.{IsSome, List, None, Option, ◌≡◌, ◌≤◌, IfSome, take, []}
 use Rattle.disk_core.specs.Streams.{GivesFront, with_more}
 use Rattle.flat_machine.specs.Machine.{Act}
 use Rattle.flat_machine.specs.State.{ready_opening}
@@ -53,3 +54,8 @@ returns-in-Ok-clause-inside g c = λ either. read-fact _ _ c.in-Ok.text (λ (lin
 
 pub returns-in-Ok-clause-line_within : goal.returns-in-Ok-clause-line_within
 returns-in-Ok-clause-line_within g c = read-fact _ _ c.in-Ok.text (λ (lines : Option (List ScriptLine)). c.run_script.result.line ≤ line_count lines) c.in-Ok.ensures.read (rw c.items.ensures at c.run_script.ensures.line_within)
+
+pub returns-in-Ok-clause-line_front : goal.returns-in-Ok-clause-line_front
+returns-in-Ok-clause-line_front g c = read-fact _ _ c.in-Ok.text
+    (λ (found : Option (List ScriptLine)). (setting : Setting) → IfSome found (λ lines. PlaysFront setting ready_opening (take c.run_script.result.line lines) [] c.run_script.result.words))
+    c.in-Ok.ensures.read (rw c.items.ensures at c.run_script.ensures.line_front)
