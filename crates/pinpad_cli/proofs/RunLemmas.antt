@@ -1,9 +1,8 @@
 -- Parts of a run, one after another.
 use Rattle.script_lang.specs.declared.kinds.Line.TheVariants as lines
 use Rattle.std.proofs.Common.{ap, append-nil, append_assoc, arith, get_or, length-append, subst, sym, ◌∙◌}
-use Rattle.std.proofs.lemmas.Grind.{common_steps}
 use Rattle.std.proofs.lemmas.List.{drop_more, take-append-le, take_more}
-use Rattle.std.proofs.Math.Seq.{take-append-add}
+use Rattle.std.proofs.Math.Seq.{take-append-add, take-length}
 use Rattle.std.specs.Prelude.{Bool, List, None, Option, Some, [], drop, length, refl, take, true, ℕ, ◌++◌, ◌+◌, ◌<◌, ◌∷◌, ◌≡◌, Err, IfErr, Ok, Result, is_none}
 use Rattle.disk_core.specs.Streams.{GivesFront, with_more}
 use Rattle.flat_machine.specs.Kept.{Kept}
@@ -31,12 +30,9 @@ with_more-with_more : (given : Option (List ℕ)) (first second : List ℕ) → 
 with_more-with_more None first second = refl
 with_more-with_more (Some bytes) first second = ap (λ (all : List ℕ). Some all) (append_assoc bytes first second)
 
-take-all : (text : List ℕ) → take (length text) text ≡ text
-take-all text = grind (arith, common_steps)
-
 -- the whole of a text is a front of it
 pub front-whole : (given now : Option (List ℕ)) (text : List ℕ) → now ≡ with_more given text → GivesFront given now text
-front-whole given now text printed = (length text, omega arith, printed ∙ ap (with_more given) (sym (take-all text)))
+front-whole given now text printed = (length text, omega arith, printed ∙ ap (with_more given) (sym (take-length text)))
 
 -- a front after a whole, and a front of a longer text
 front-after : (given between now : Option (List ℕ)) (text rest : List ℕ) → between ≡ with_more given text → GivesFront between now rest → GivesFront given now (text ++ rest)
@@ -75,9 +71,40 @@ line_of_step-is set state step word is_masked outs quiet hidden said =
     ∙ ap (λ (f : Option Fate). line_text (line_of_step step (masked state.public step) word f (next set state step word).outs)) (sym (ap (λ (w : DiskWord). word_fate state.public w) quiet))
 
 module _ (set : Setting) where
+  -- parts that were taken: none, a step, one after another, and where another player plays the same
+  abbrev pub took-none : (state : Flat) (player : Player) (kept : Kept) (words : List DiskWord) → StandsFor kept state → Took set state player player kept words words
+  took-none state player kept words stands = record { state = state; stands = stands; more = []; told_more = sym (append-nil words); done = []; played = λ tail. refl }
+
+  abbrev pub took-step : (state : Flat) (rest : Player) (kept : Kept) (words told : List DiskWord) (step : Step) (word : DiskWord) → StandsFor kept (next set state step word).state → told ≡ words ++ word ∷ [] → Took set state (step_then set step rest) rest kept words told
+  took-step state rest kept words told step word stands told_is = record { state = (next set state step word).state; stands = stands; more = word ∷ []; told_more = told_is; done = record { step = step; word = word } ∷ []; played = λ tail. refl }
+
+  abbrev pub took-after : (start : Flat) (whole between rest : Player) (one two : Kept) (words told_one told_two : List DiskWord)
+      (first : Took set start whole between one words told_one) → Took set first.state between rest two told_one told_two → Took set start whole rest two words told_two
+  took-after start whole between rest one two words told_one told_two first second = record {
+    state = second.state;
+    stands = second.stands;
+    more = first.more ++ second.more;
+    told_more = second.told_more ∙ ap (λ (told : List DiskWord). told ++ second.more) first.told_more ∙ append_assoc words first.more second.more;
+    done = first.done ++ second.done;
+    played = λ tail.
+        ap (whole start) (append_assoc first.more second.more tail) ∙ first.played (second.more ++ tail) ∙ ap (with_acts first.done) (second.played tail)
+        ∙ ap (λ (acts : List Act). record { acts = acts; whole = (rest second.state tail).whole }) (sym (append_assoc first.done second.done (rest second.state tail).acts));
+  }
+
+  pub took-then : (start : Flat) (whole between rest : Player) (one two : Kept) (words told_one told_two : List DiskWord)
+      → Took set start whole between one words told_one → ((state : Flat) → StandsFor one state → Took set state between rest two told_one told_two) → Took set start whole rest two words told_two
+  took-then start whole between rest one two words told_one told_two first goes_on =
+      took-after start whole between rest one two words told_one told_two first (goes_on first.state first.stands)
+
+  abbrev pub took-as : (state : Flat) (one two rest : Player) (kept : Kept) (words told : List DiskWord) → Took set state one rest kept words told → ((ws : List DiskWord) → two state ws ≡ one state ws) → Took set state two rest kept words told
+  took-as state one two rest kept words told took same = record { state = took.state; stands = took.stands; more = took.more; told_more = took.told_more; done = took.done; played = λ tail. same (took.more ++ tail) ∙ took.played tail }
+
+  abbrev pub took-over : (state : Flat) (whole one two : Player) (kept : Kept) (words told : List DiskWord) → Took set state whole one kept words told → ((later : Flat) (ws : List DiskWord) → StandsFor kept later → one later ws ≡ two later ws) → Took set state whole two kept words told
+  took-over state whole one two kept words told took same = record { state = took.state; stands = took.stands; more = took.more; told_more = took.told_more; done = took.done; played = λ tail. took.played tail ∙ ap (with_acts took.done) (same took.state tail took.stands) }
+
   -- nothing was played
   pub ran-none : (state : Flat) (player : Player) (kept : Kept) (words : List DiskWord) (given : Option (List ℕ)) → StandsFor kept state → Ran set state player player kept words words given given
-  ran-none state player kept words given stands = record { state = state; stands = stands; more = []; told_more = sym (append-nil words); done = []; played = λ tail. refl; text = []; printed = with_more-none given; spelled = λ others. refl }
+  ran-none state player kept words given stands = record { took = took-none state player kept words stands; text = []; printed = with_more-none given; spelled = λ others. refl }
 
   pub broke-none : (state : Flat) (player : Player) (words : List DiskWord) (given : Option (List ℕ)) → BrokeOff set state player words words given given
   broke-none state player words given = record { more = []; told_more = sym (append-nil words); front = (0, omega arith, with_more-none given) }
@@ -88,12 +115,7 @@ module _ (set : Setting) where
       → text ≡ line_text (line_of set state (record { step = step; word = word }))
       → Ran set state (step_then set step rest) rest kept words told given now
   ran-step state rest kept words told given now step word text stands told_is printed is = record {
-    state = (next set state step word).state;
-    stands = stands;
-    more = word ∷ [];
-    told_more = told_is;
-    done = record { step = step; word = word } ∷ [];
-    played = λ tail. refl;
+    took = took-step state rest kept words told step word stands told_is;
     text = text;
     printed = printed;
     spelled = λ others. ap (λ (t : List ℕ). t ++ text_from set (next set state step word).state others) (sym is);
@@ -117,21 +139,14 @@ module _ (set : Setting) where
       → ((state : Flat) → StandsFor one state → Ran set state between rest two told_one told_two given_one given_two)
       → Ran set start whole rest two words told_two given given_two
   ran-then start whole between rest one two words told_one told_two given given_one given_two first goes_on =
-      let second : Ran set first.state between rest two told_one told_two given_one given_two = goes_on first.state first.stands in
+      let second : Ran set first.took.state between rest two told_one told_two given_one given_two = goes_on first.took.state first.took.stands in
       record {
-        state = second.state;
-        stands = second.stands;
-        more = first.more ++ second.more;
-        told_more = second.told_more ∙ ap (λ (told : List DiskWord). told ++ second.more) first.told_more ∙ append_assoc words first.more second.more;
-        done = first.done ++ second.done;
-        played = λ tail.
-            ap (whole start) (append_assoc first.more second.more tail) ∙ first.played (second.more ++ tail) ∙ ap (with_acts first.done) (second.played tail)
-            ∙ ap (λ (acts : List Act). record { acts = acts; whole = (rest second.state tail).whole }) (sym (append_assoc first.done second.done (rest second.state tail).acts));
+        took = took-after start whole between rest one two words told_one told_two first.took second.took;
         text = first.text ++ second.text;
         printed = second.printed ∙ ap (λ (g : Option (List ℕ)). with_more g second.text) first.printed ∙ with_more-with_more given first.text second.text;
         spelled = λ others.
-            ap (text_from set start) (append_assoc first.done second.done others) ∙ first.spelled (second.done ++ others) ∙ ap (λ (t : List ℕ). first.text ++ t) (second.spelled others)
-            ∙ sym (append_assoc first.text second.text (text_from set second.state others));
+            ap (text_from set start) (append_assoc first.took.done second.took.done others) ∙ first.spelled (second.took.done ++ others) ∙ ap (λ (t : List ℕ). first.text ++ t) (second.spelled others)
+            ∙ sym (append_assoc first.text second.text (text_from set second.took.state others));
       }
 
   pub broke-then : (start : Flat) (whole between : Player) (one : Kept) (words told_one told_two : List DiskWord) (given given_one given_two : Option (List ℕ))
@@ -139,22 +154,22 @@ module _ (set : Setting) where
       → ((state : Flat) → StandsFor one state → BrokeOff set state between told_one told_two given_one given_two)
       → BrokeOff set start whole words told_two given given_two
   broke-then start whole between one words told_one told_two given given_one given_two first goes_on =
-      let second : BrokeOff set first.state between told_one told_two given_one given_two = goes_on first.state first.stands in
-      let acts : (whole start (first.more ++ second.more)).acts ≡ first.done ++ (between first.state second.more).acts = ap (λ (played : Played). played.acts) (first.played second.more) in
-      let text : text_from set start (whole start (first.more ++ second.more)).acts ≡ first.text ++ text_from set first.state (between first.state second.more).acts =
-      ap (text_from set start) acts ∙ first.spelled (between first.state second.more).acts in
+      let second : BrokeOff set first.took.state between told_one told_two given_one given_two = goes_on first.took.state first.took.stands in
+      let acts : (whole start (first.took.more ++ second.more)).acts ≡ first.took.done ++ (between first.took.state second.more).acts = ap (λ (played : Played). played.acts) (first.took.played second.more) in
+      let text : text_from set start (whole start (first.took.more ++ second.more)).acts ≡ first.text ++ text_from set first.took.state (between first.took.state second.more).acts =
+      ap (text_from set start) acts ∙ first.spelled (between first.took.state second.more).acts in
       record {
-        more = first.more ++ second.more;
-        told_more = second.told_more ∙ ap (λ (told : List DiskWord). told ++ second.more) first.told_more ∙ append_assoc words first.more second.more;
-        front = subst (λ (t : List ℕ). GivesFront given given_two t) (sym text) (front-after given given_one given_two first.text (text_from set first.state (between first.state second.more).acts) first.printed second.front);
+        more = first.took.more ++ second.more;
+        told_more = second.told_more ∙ ap (λ (told : List DiskWord). told ++ second.more) first.took.told_more ∙ append_assoc words first.took.more second.more;
+        front = subst (λ (t : List ℕ). GivesFront given given_two t) (sym text) (front-after given given_one given_two first.text (text_from set first.took.state (between first.took.state second.more).acts) first.printed second.front);
       }
 
   -- where another player plays the same from there
   pub ran-as : (state : Flat) (one two rest : Player) (kept : Kept) (words told : List DiskWord) (given now : Option (List ℕ)) → Ran set state one rest kept words told given now → ((ws : List DiskWord) → two state ws ≡ one state ws) → Ran set state two rest kept words told given now
-  ran-as state one two rest kept words told given now ran same = record { state = ran.state; stands = ran.stands; more = ran.more; told_more = ran.told_more; done = ran.done; played = λ tail. same (ran.more ++ tail) ∙ ran.played tail; text = ran.text; printed = ran.printed; spelled = ran.spelled }
+  ran-as state one two rest kept words told given now ran same = record { took = took-as state one two rest kept words told ran.took same; text = ran.text; printed = ran.printed; spelled = ran.spelled }
 
   pub ran-over : (state : Flat) (whole one two : Player) (kept : Kept) (words told : List DiskWord) (given now : Option (List ℕ)) → Ran set state whole one kept words told given now → ((later : Flat) (ws : List DiskWord) → StandsFor kept later → one later ws ≡ two later ws) → Ran set state whole two kept words told given now
-  ran-over state whole one two kept words told given now ran same = record { state = ran.state; stands = ran.stands; more = ran.more; told_more = ran.told_more; done = ran.done; played = λ tail. ran.played tail ∙ ap (with_acts ran.done) (same ran.state tail ran.stands); text = ran.text; printed = ran.printed; spelled = ran.spelled }
+  ran-over state whole one two kept words told given now ran same = record { took = took-over state whole one two kept words told ran.took same; text = ran.text; printed = ran.printed; spelled = ran.spelled }
 
   pub broke-as : (state : Flat) (one two : Player) (words told : List DiskWord) (given now : Option (List ℕ)) → BrokeOff set state one words told given now → ((ws : List DiskWord) → two state ws ≡ one state ws) → BrokeOff set state two words told given now
   broke-as state one two words told given now broke same = record { more = broke.more; told_more = broke.told_more; front = subst (λ (played : Played). GivesFront given now (text_from set state played.acts)) (sym (same broke.more)) broke.front }
@@ -175,37 +190,6 @@ module _ (set : Setting) where
       ap (λ (rest : List Line). play set rest state words) (drop_more lines place line lt)
       ∙ ap (λ (first : Line). line_then set first (play set (drop (place + 1) lines)) state words) (sym is)
 
-  -- the same of what was taken, whatever was printed
-  pub took-ran : (state : Flat) (whole rest : Player) (kept : Kept) (words told : List DiskWord) (given now : Option (List ℕ)) → Ran set state whole rest kept words told given now → Took set state whole rest kept words told
-  took-ran state whole rest kept words told given now ran = record { state = ran.state; stands = ran.stands; more = ran.more; told_more = ran.told_more; done = ran.done; played = ran.played }
-
-  pub took-none : (state : Flat) (player : Player) (kept : Kept) (words : List DiskWord) → StandsFor kept state → Took set state player player kept words words
-  took-none state player kept words stands = record { state = state; stands = stands; more = []; told_more = sym (append-nil words); done = []; played = λ tail. refl }
-
-  pub took-step : (state : Flat) (rest : Player) (kept : Kept) (words told : List DiskWord) (step : Step) (word : DiskWord) → StandsFor kept (next set state step word).state → told ≡ words ++ word ∷ [] → Took set state (step_then set step rest) rest kept words told
-  took-step state rest kept words told step word stands told_is = record { state = (next set state step word).state; stands = stands; more = word ∷ []; told_more = told_is; done = record { step = step; word = word } ∷ []; played = λ tail. refl }
-
-  pub took-then : (start : Flat) (whole between rest : Player) (one two : Kept) (words told_one told_two : List DiskWord)
-      → Took set start whole between one words told_one → ((state : Flat) → StandsFor one state → Took set state between rest two told_one told_two) → Took set start whole rest two words told_two
-  took-then start whole between rest one two words told_one told_two first goes_on =
-      let second : Took set first.state between rest two told_one told_two = goes_on first.state first.stands in
-      record {
-        state = second.state;
-        stands = second.stands;
-        more = first.more ++ second.more;
-        told_more = second.told_more ∙ ap (λ (told : List DiskWord). told ++ second.more) first.told_more ∙ append_assoc words first.more second.more;
-        done = first.done ++ second.done;
-        played = λ tail.
-            ap (whole start) (append_assoc first.more second.more tail) ∙ first.played (second.more ++ tail) ∙ ap (with_acts first.done) (second.played tail)
-            ∙ ap (λ (acts : List Act). record { acts = acts; whole = (rest second.state tail).whole }) (sym (append_assoc first.done second.done (rest second.state tail).acts));
-      }
-
-  pub took-as : (state : Flat) (one two rest : Player) (kept : Kept) (words told : List DiskWord) → Took set state one rest kept words told → ((ws : List DiskWord) → two state ws ≡ one state ws) → Took set state two rest kept words told
-  took-as state one two rest kept words told took same = record { state = took.state; stands = took.stands; more = took.more; told_more = took.told_more; done = took.done; played = λ tail. same (took.more ++ tail) ∙ took.played tail }
-
-  pub took-over : (state : Flat) (whole one two : Player) (kept : Kept) (words told : List DiskWord) → Took set state whole one kept words told → ((later : Flat) (ws : List DiskWord) → StandsFor kept later → one later ws ≡ two later ws) → Took set state whole two kept words told
-  took-over state whole one two kept words told took same = record { state = took.state; stands = took.stands; more = took.more; told_more = took.told_more; done = took.done; played = λ tail. took.played tail ∙ ap (with_acts took.done) (same took.state tail took.stands) }
-
   -- lines and one more
   play_then-snoc : (lines : List Line) (line : Line) (rest : Player) → play_then set (lines ++ line ∷ []) rest ≡ play_then set lines (line_then set line rest)
   play_then-snoc [] line rest = refl
@@ -221,14 +205,6 @@ module _ (set : Setting) where
       (took-then start (play_then set (take place lines) (line_then set line rest)) (line_then set line rest) rest one two words told_one told_two before goes_on)
 
   -- the words of the lines that were taken are a front of all words
-  pub front-took : (lines : List Line) (state : Flat) (kept : Kept) (words told : List DiskWord) → Took set state (play_then set lines play_end) play_end kept words told → PlaysFront set state lines words told
-  front-took lines state kept words told took = record {
-    front = took.more;
-    back = [];
-    parts = took.told_more ∙ ap (λ (more : List DiskWord). words ++ more) (sym (append-nil took.more));
-    whole = ap (λ (played : Played). played.whole) (ap (play_then set lines play_end state) (sym (append-nil took.more)) ∙ took.played []);
-  }
-
   pub front-more : (lines : List Line) (state : Flat) (kept : Kept) (words told all more : List DiskWord) → Took set state (play_then set lines play_end) play_end kept words told → all ≡ told ++ more → PlaysFront set state lines words all
   front-more lines state kept words told all more took all_is = record {
     front = took.more;
@@ -237,6 +213,9 @@ module _ (set : Setting) where
     whole = ap (λ (played : Played). played.whole) (ap (play_then set lines play_end state) (sym (append-nil took.more)) ∙ took.played []);
   }
 
+  pub front-took : (lines : List Line) (state : Flat) (kept : Kept) (words told : List DiskWord) → Took set state (play_then set lines play_end) play_end kept words told → PlaysFront set state lines words told
+  front-took lines state kept words told took = front-more lines state kept words told told [] took (sym (append-nil told))
+
   -- a run to the end
   pub record Finished (words : List DiskWord) (played : Played) (given now : Option (List ℕ)) : Type 0 where
     pub whole : played.whole ≡ true
@@ -244,7 +223,7 @@ module _ (set : Setting) where
 
   pub finished-ran : (lines : List Line) (kept : Kept) (told : List DiskWord) (given now : Option (List ℕ)) → Ran set ready_opening (play set lines) (play set []) kept [] told given now → Finished told (play set lines ready_opening told) given now
   finished-ran lines kept told given now ran =
-      let is : play set lines ready_opening told ≡ record { acts = ran.done ++ []; whole = true } = ap (play set lines ready_opening) (ran.told_more ∙ sym (append-nil ran.more)) ∙ ran.played [] in
+      let is : play set lines ready_opening told ≡ record { acts = ran.took.done ++ []; whole = true } = ap (play set lines ready_opening) (ran.took.told_more ∙ sym (append-nil ran.took.more)) ∙ ran.took.played [] in
       record {
         whole = ap (λ (played : Played). played.whole) is;
         printed = ran.printed ∙ ap (with_more given) (sym (ap (λ (played : Played). text_from set ready_opening played.acts) is ∙ ran.spelled [] ∙ append-nil ran.text));

@@ -10,25 +10,7 @@ use Rattle.pad_steps.specs.declared.steps.DiskWord.{DiskWord}
 use Rattle.pinpad_cli.specs.Runs.{Player, play, text_from, with_acts}
 use Rattle.script_lang.specs.declared.kinds.Line.{Line}
 
--- From a state the machine played the front of a whole, and a rest is left to play. All of its text was given.
-pub record Ran (setting : Setting) (before : Flat) (whole rest : Player) (kept : Kept) (words told : List DiskWord) (given now : Option (List ℕ)) : Type 0 where
-  pub state : Flat
-  pub stands : StandsFor kept state
-  pub more : List DiskWord
-  pub told_more : told ≡ words ++ more
-  pub done : List Act
-  pub played : (tail : List DiskWord) → whole before (more ++ tail) ≡ with_acts done (rest state tail)
-  pub text : List ℕ
-  pub printed : now ≡ with_more given text
-  pub spelled : (others : List Act) → text_from setting before (done ++ others) ≡ text ++ text_from setting state others
-
--- From a state the machine played some of a whole, and a front of the text of that was given.
-pub record BrokeOff (setting : Setting) (before : Flat) (whole : Player) (words told : List DiskWord) (given now : Option (List ℕ)) : Type 0 where
-  pub more : List DiskWord
-  pub told_more : told ≡ words ++ more
-  pub front : GivesFront given now (text_from setting before (whole before more).acts)
-
--- From a state the machine played the front of a whole, and a rest is left to play, whatever was printed.
+-- From a state the machine took the front of a whole: it stands for another state now, and a rest is left to play.
 pub record Took (setting : Setting) (before : Flat) (whole rest : Player) (kept : Kept) (words told : List DiskWord) : Type 0 where
   pub state : Flat
   pub stands : StandsFor kept state
@@ -36,6 +18,19 @@ pub record Took (setting : Setting) (before : Flat) (whole rest : Player) (kept 
   pub told_more : told ≡ words ++ more
   pub done : List Act
   pub played : (tail : List DiskWord) → whole before (more ++ tail) ≡ with_acts done (rest state tail)
+
+-- From a state the machine took the front of a whole, and all of its text was given.
+pub record Ran (setting : Setting) (before : Flat) (whole rest : Player) (kept : Kept) (words told : List DiskWord) (given now : Option (List ℕ)) : Type 0 where
+  pub took : Took setting before whole rest kept words told
+  pub text : List ℕ
+  pub printed : now ≡ with_more given text
+  pub spelled : (others : List Act) → text_from setting before (took.done ++ others) ≡ text ++ text_from setting took.state others
+
+-- From a state the machine played some of a whole, and a front of the text of that was given.
+pub record BrokeOff (setting : Setting) (before : Flat) (whole : Player) (words told : List DiskWord) (given now : Option (List ℕ)) : Type 0 where
+  pub more : List DiskWord
+  pub told_more : told ≡ words ++ more
+  pub front : GivesFront given now (text_from setting before (whole before more).acts)
 
 -- Of the words told, a front is one for each step of these lines; what is left belongs to a line after them.
 pub record PlaysFront (setting : Setting) (before : Flat) (lines : List Line) (words told : List DiskWord) : Type 0 where

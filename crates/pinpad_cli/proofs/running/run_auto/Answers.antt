@@ -1,5 +1,5 @@
 use Rattle.std.proofs.Common.{arith, sym}
-use Rattle.pinpad_cli.proofs.RunLemmas.{auto_then-due, auto_then-over, broke-as, broke-then, ran-as, ran-none, ran-over, ran-then, took-as, took-ran, took-then}
+use Rattle.pinpad_cli.proofs.RunLemmas.{auto_then-due, auto_then-over, broke-as, broke-then, ran-as, ran-none, ran-over, ran-then, took-as, took-then}
 use Rattle.pinpad_cli.specs.Runs.{auto_then, step_then}
 use Rattle.pinpad_cli.proofs.running.run_auto.Goals as goal
 
@@ -24,5 +24,5 @@ returns-clause-ran g c = λ set h rest stands. ran-over set h (auto_then set res
 pub returns-in-Err-clause-taken : goal.returns-in-Err-clause-taken
 returns-in-Err-clause-taken g c = λ taken set state rest stands.
     took-then set state (auto_then set rest) (auto_then set rest) (auto_then set rest) c.loop-step.pad _ _ c.loop-step.words.items _
-    (took-ran set state (auto_then set rest) (auto_then set rest) _ _ _ _ _ (c.loop-step.invariant.ran set state rest stands))
+    (c.loop-step.invariant.ran set state rest stands).took
     (λ k now. took-as set k (step_then set c.in-Some.step (auto_then set rest)) (auto_then set rest) (auto_then set rest) _ _ _ (c.in-Err.ensures.taken taken set k (auto_then set rest) now) (λ ws. auto_then-due set rest k c.in-Some.step ws (sym (c.in-Some.ensures.due k now))))

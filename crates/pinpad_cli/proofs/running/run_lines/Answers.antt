@@ -1,6 +1,6 @@
 use Rattle.pinpad_cli.specs.Parts.{Took}
 use Rattle.std.proofs.Common.{ap, arith, drop, length, refl, ◌+◌, sym, take, ◌∙◌}
-use Rattle.pinpad_cli.proofs.RunLemmas.{broke-as, broke-then, play-more, ran-as, ran-none, ran-over, ran-then, took-line, took-none, took-ran, front-more, front-took}
+use Rattle.pinpad_cli.proofs.RunLemmas.{broke-as, broke-then, play-more, ran-as, ran-none, ran-over, ran-then, took-line, took-none, front-more, front-took}
 use Rattle.script_lang.specs.declared.kinds.Line.{Line}
 use Rattle.std.proofs.lemmas.List.{drop_all}
 use Rattle.std.specs.Prelude.{List, []}
@@ -17,7 +17,7 @@ loop-line-preserved g c = record {
       (λ ws. play-more set c.args.lines.now c.loop-line.line-index c.line-item.result (omega arith) c.line-item.is k ws));
   took = λ set state rest stands. took-line set c.args.lines.now c.loop-line.line-index c.line-item.result state rest c.loop-line.pad c.run_line.new.pad _ c.loop-line.words.items _ (omega arith) c.line-item.is
       (c.loop-line.invariant.took set state (line_then set c.line-item.result rest) stands)
-      (λ k now. took-ran set k (line_then set c.line-item.result rest) rest _ _ _ _ _ (c.in-Ok.ensures.ran set k rest now));
+      (λ k now. (c.in-Ok.ensures.ran set k rest now).took);
   later = omega (arith, c.loop-line.invariant.later, c.in-Ok.ensures.later);
   ids = omega (arith, c.loop-line.invariant.ids, c.in-Ok.ensures.ids);
   count = ap (λ n. n + 1) c.loop-line.invariant.count;
