@@ -2,14 +2,27 @@
 use Rattle.key_source.specs.declared.Key.{Key}
 use Rattle.key_source.specs.declared.Key.TheVariants as keypad
 use Rattle.key_source.specs.declared.Mask.{Mask}
+use Rattle.pad_steps.specs.Accounts.{is_pan}
+use Rattle.pad_steps.specs.declared.commands.BlockRequest.{BlockRequest}
 use Rattle.pad_steps.specs.declared.commands.Command.{Command}
 use Rattle.pad_steps.specs.declared.commands.Command.TheVariants as command
 use Rattle.pad_steps.specs.declared.commands.EntryRules.{EntryRules}
+use Rattle.pad_steps.specs.declared.commands.Form.{Form}
+use Rattle.pad_steps.specs.declared.commands.Form.TheVariants as forms
+use Rattle.pad_steps.specs.declared.commands.ImportRequest.{ImportRequest}
+use Rattle.pad_steps.specs.declared.commands.ImportSource.{ImportSource}
+use Rattle.pad_steps.specs.declared.commands.ImportSource.TheVariants as origin
+use Rattle.pad_steps.specs.declared.commands.PinRequest.{PinRequest}
+use Rattle.pad_steps.specs.declared.commands.PinRequest.TheVariants as pin
+use Rattle.pad_steps.specs.declared.commands.Verify.{Verify}
+use Rattle.pad_steps.specs.declared.commands.Verify.TheVariants as verify
 use Rattle.pad_steps.specs.declared.steps.Classes.{Classes}
 use Rattle.pad_steps.specs.declared.steps.Step.{Step}
 use Rattle.pad_steps.specs.declared.steps.Step.TheVariants as step
+use Rattle.pad_words.specs.Names.{is_key_name}
 use Rattle.pad_words.specs.declared.numbers.Session.{Session}
-use Rattle.std.specs.Prelude.{Bool, false, not, true, ◌&&◌, ◌==◌, ◌||◌}
+use Rattle.std.specs.List.{list_all}
+use Rattle.std.specs.Prelude.{Bool, List, false, is_none, length, nat_le, nat_lt, not, true, ℕ, ◌&&◌, ◌==◌, ◌||◌}
 
 -- the session that a line may name: 1 alone
 abbrev pub is_built_session : Session → Bool
@@ -35,15 +48,56 @@ same_mask a b = (a.keys == b.keys) && (a.fdks == b.fdks)
 abbrev pub is_built_entry : EntryRules → Bool
 is_built_entry rules = (rules.min == 4) && (rules.max == 16) && not rules.auto_end && same_mask rules.active entry_keys && same_mask rules.terminate ending_keys
 
+-- ISO 9564-1 format 0
+abbrev pub is_format_0 : Form → Bool
+is_format_0 forms.Iso0 = true
+is_format_0 forms.Iso1 = false
+is_format_0 forms.Iso2 = false
+is_format_0 forms.Iso3 = false
+is_format_0 forms.Iso4 = false
+is_format_0 forms.Ibm3624 = false
+is_format_0 forms.Diebold = false
+is_format_0 forms.DieboldCo = false
+
+-- the PIN block that a line may ask for: format 0 under one key, for a PAN, with any padding nibble
+abbrev pub is_built_block : BlockRequest → Bool
+is_built_block request = is_format_0 request.form && is_key_name request.key && is_none request.second && is_none request.xor && is_pan request.customer && nat_le request.pad 15
+
+-- a block, and no other PIN command
+abbrev pub is_built_pin : PinRequest → Bool
+is_built_pin (pin.Block request) = is_built_block request
+is_built_pin (pin.Check request) = false
+is_built_pin (pin.Extra request) = false
+
+-- each is a byte
+abbrev pub all_bytes : List ℕ → Bool
+all_bytes values = list_all (λ value. nat_lt value 256) values
+
+-- eight bytes in clear
+abbrev pub is_built_source : ImportSource → Bool
+is_built_source (origin.Clear value) = (length value == 8) && all_bytes value
+is_built_source (origin.Sealed name value) = false
+is_built_source origin.Part = false
+
+-- no check value is asked for
+abbrev pub is_unchecked : Verify → Bool
+is_unchecked verify.Nothing = true
+is_unchecked verify.Own = false
+is_unchecked verify.Zero = false
+
+-- the import that a line may ask for: eight bytes in clear for FUNCTION alone, without a check value
+abbrev pub is_built_import : ImportRequest → Bool
+is_built_import request = is_key_name request.name && is_built_source request.source && (request.uses == 0x0002) && is_unchecked request.verify
+
 -- a command that a line spells
 abbrev pub is_well_formed_command : Command → Bool
 is_well_formed_command (command.GetPin rules) = is_built_entry rules
 is_well_formed_command (command.GetData rules) = false
 is_well_formed_command (command.SecureKeyEntry rules) = false
 is_well_formed_command (command.MaintainPin on) = false
-is_well_formed_command (command.Pin request) = false
+is_well_formed_command (command.Pin request) = is_built_pin request
 is_well_formed_command (command.Crypt request) = false
-is_well_formed_command (command.ImportKey request) = false
+is_well_formed_command (command.ImportKey request) = is_built_import request
 is_well_formed_command (command.DeleteKey name) = false
 is_well_formed_command command.Init = false
 is_well_formed_command command.Reset = false
@@ -77,23 +131,23 @@ is_scripted (step.Ask s question) = false
 is_scripted step.Off = false
 is_scripted step.Boot = false
 
--- the step is Begin
-abbrev pub is_begin : Step → Bool
-is_begin (step.Open s) = false
-is_begin (step.Close s) = false
-is_begin (step.Listen s classes) = false
-is_begin (step.Lock s) = false
-is_begin (step.Unlock s) = false
-is_begin (step.Submit s limit c) = false
-is_begin (step.Cancel s id) = false
-is_begin step.Begin = true
-is_begin step.Finish = false
-is_begin (step.Press key) = false
-is_begin (step.Tick n) = false
-is_begin (step.Ask s question) = false
-is_begin step.Off = false
-is_begin step.Boot = false
+-- the step is Begin or Finish
+abbrev pub is_work : Step → Bool
+is_work (step.Open s) = false
+is_work (step.Close s) = false
+is_work (step.Listen s classes) = false
+is_work (step.Lock s) = false
+is_work (step.Unlock s) = false
+is_work (step.Submit s limit c) = false
+is_work (step.Cancel s id) = false
+is_work step.Begin = true
+is_work step.Finish = true
+is_work (step.Press key) = false
+is_work (step.Tick n) = false
+is_work (step.Ask s question) = false
+is_work step.Off = false
+is_work step.Boot = false
 
--- a step that the machine takes: one of a line, or Begin, which `auto` takes
+-- a step that the machine takes: one of a line, or Begin or Finish, which `auto` takes
 abbrev pub is_well_formed : Step → Bool
-is_well_formed s = is_scripted s || is_begin s
+is_well_formed s = is_scripted s || is_work s

@@ -1,6 +1,7 @@
-//! Copies of commands. Each takes its memory first, and is the command again.
+//! Copies of commands, of refusals and of events. Each takes its memory first, and is what was copied again.
 ghost use Rattle.std.specs.Prelude.{◌≡◌, IfOk};
 
+use crate::answers::{Event, Refusal};
 use crate::commands::{
     BlockRequest, CheckRequest, Command, CryptRequest, ExtraRequest, ImportRequest, ImportSource,
     PinRequest, Start,
@@ -147,6 +148,59 @@ impl Command {
             Command::Init => Ok(Command::Init),
             Command::Reset => Ok(Command::Reset),
             Command::RsaImport => Ok(Command::RsaImport),
+        }
+    }
+}
+
+impl Refusal {
+    /// The refusal again, without memory.
+    pub fn copy(&self) -> Refusal
+        ensures { result ≡ self.now }
+    {
+        match self {
+            Refusal::NoSession => Refusal::NoSession,
+            Refusal::AlreadyOpen => Refusal::AlreadyOpen,
+            Refusal::ConnectionLost => Refusal::ConnectionLost,
+            Refusal::Locked(holder) => Refusal::Locked(*holder),
+            Refusal::QueueFull(pending) => Refusal::QueueFull(*pending),
+            Refusal::UnsuppCommand => Refusal::UnsuppCommand,
+            Refusal::FormatNotSupported => Refusal::FormatNotSupported,
+            Refusal::ModeNotSupported => Refusal::ModeNotSupported,
+            Refusal::InvalidData => Refusal::InvalidData,
+            Refusal::HardwareError => Refusal::HardwareError,
+            Refusal::BadStore(slot) => Refusal::BadStore(*slot),
+            Refusal::MinimumLength => Refusal::MinimumLength,
+            Refusal::NoActiveKeys => Refusal::NoActiveKeys,
+            Refusal::KeyNotSupported => Refusal::KeyNotSupported,
+            Refusal::KeyNotFound => Refusal::KeyNotFound,
+            Refusal::KeyNoValue => Refusal::KeyNoValue,
+            Refusal::UseViolation => Refusal::UseViolation,
+            Refusal::AccessDenied => Refusal::AccessDenied,
+            Refusal::InvalidKeyLength => Refusal::InvalidKeyLength,
+            Refusal::DuplicateKey(name) => Refusal::DuplicateKey(name.copy()),
+            Refusal::TableFull => Refusal::TableFull,
+            Refusal::NoPin => Refusal::NoPin,
+            Refusal::LengthError => Refusal::LengthError,
+            Refusal::Canceled => Refusal::Canceled,
+            Refusal::Timeout => Refusal::Timeout,
+            Refusal::InvalidReqId => Refusal::InvalidReqId,
+            Refusal::NotLocked => Refusal::NotLocked,
+        }
+    }
+}
+
+impl Event {
+    /// The event again, without memory.
+    pub fn copy(&self) -> Event
+        ensures { result ≡ self.now }
+    {
+        match self {
+            Event::EnterData => Event::EnterData,
+            Event::Key(shown) => Event::Key(*shown),
+            Event::Initialized => Event::Initialized,
+            Event::IllegalKeyAccess(name, refusal) => {
+                Event::IllegalKeyAccess(name.copy(), refusal.copy())
+            }
         }
     }
 }

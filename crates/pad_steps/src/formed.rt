@@ -1,11 +1,15 @@
 //! Which steps and commands a line of the script spells, as far as lines are built.
-ghost use Rattle.std.specs.Prelude.{◌≡◌};
-ghost use Rattle.pad_steps.specs.Formed.{is_built_session, is_execute_alone, same_mask, is_built_entry, is_well_formed_command, is_built_key, is_scripted, is_well_formed};
+ghost use Rattle.std.specs.Prelude.{◌≡◌, ◌==◌, ◌&&◌, length};
+ghost use Rattle.pad_words.specs.Names.{is_key_name};
+ghost use Rattle.pad_steps.specs.Formed.{all_bytes, is_built_block, is_built_entry, is_built_import, is_built_key, is_built_pin, is_built_session, is_built_source, is_execute_alone, is_scripted, is_well_formed, is_well_formed_command, same_mask};
 
-use crate::commands::{Command, EntryRules};
+use crate::accounts::is_pan;
+use crate::commands::{
+    BlockRequest, Command, EntryRules, Form, ImportRequest, ImportSource, PinRequest, Verify,
+};
 use crate::steps::{Classes, Step};
 use key_source::{Key, Mask};
-use pad_words::Session;
+use pad_words::{KeyName, Session};
 
 /// Digits, ENTER, CANCEL, CLEAR and BACKSPACE: key bits 0 to 9 and 16 to 19.
 const ENTRY_KEYS: Mask = Mask {
@@ -51,6 +55,62 @@ fn built_entry(rules: &EntryRules) -> bool
         && masks_agree(&rules.terminate, &ENDING_KEYS)
 }
 
+// a name: its type says what a name may be
+fn is_named(name: &KeyName) -> bool
+    ensures { result ≡ is_key_name name.now }
+{
+    !name.text().is_empty()
+}
+
+// format 0 under one key, for a PAN, with any padding nibble
+fn built_block(request: &BlockRequest) -> bool
+    ensures { result ≡ is_built_block request.now }
+{
+    request.form == Form::Iso0
+        && is_named(&request.key)
+        && request.second.is_none()
+        && request.xor.is_none()
+        && is_pan(request.customer.items())
+        && request.pad <= 15
+}
+
+// a block, and no other PIN command
+fn built_pin(request: &PinRequest) -> bool
+    ensures { result ≡ is_built_pin request.now }
+{
+    match request {
+        PinRequest::Block(request) => built_block(request),
+        PinRequest::Check(_) | PinRequest::Extra(_) => false,
+    }
+}
+
+// eight bytes: their type says what a byte may be
+fn are_eight_bytes(values: &[u8]) -> bool
+    ensures { result ≡ (length values.now == 8) && all_bytes values.now }
+{
+    values.len() == 8
+}
+
+// eight bytes in clear
+fn built_source(source: &ImportSource) -> bool
+    ensures { result ≡ is_built_source source.now }
+{
+    match source {
+        ImportSource::Clear(value) => are_eight_bytes(value.items()),
+        ImportSource::Sealed(_, _) | ImportSource::Part => false,
+    }
+}
+
+// eight bytes in clear for FUNCTION alone, without a check value
+fn built_import(request: &ImportRequest) -> bool
+    ensures { result ≡ is_built_import request.now }
+{
+    is_named(&request.name)
+        && built_source(&request.source)
+        && request.uses == 0x0002
+        && request.verify == Verify::Nothing
+}
+
 // a digit, ENTER, CANCEL, CLEAR or BACKSPACE
 fn built_key(key: &Key) -> bool
     ensures { result ≡ is_built_key key.now }
@@ -68,6 +128,8 @@ impl Command {
     {
         match self {
             Command::GetPin(rules) => built_entry(rules),
+            Command::Pin(request) => built_pin(request),
+            Command::ImportKey(request) => built_import(request),
             _ => false,
         }
     }
@@ -89,10 +151,10 @@ impl Step {
         }
     }
 
-    /// Whether the machine takes this step: one that a line spells, or Begin, which `auto` takes.
+    /// Whether the machine takes this step: one that a line spells, or Begin or Finish, which `auto` takes.
     pub fn well_formed(&self) -> bool
         ensures { result ≡ is_well_formed self.now }
     {
-        self.is_scripted() || matches!(self, Step::Begin)
+        self.is_scripted() || matches!(self, Step::Begin | Step::Finish)
     }
 }

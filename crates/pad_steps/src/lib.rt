@@ -1,6 +1,7 @@
 //! The machine's commands and steps, and what it answers, as plain data.
 #![tactic(auto)]
 
+pub mod accounts;
 pub mod answers;
 pub mod commands;
 mod copies;
@@ -8,6 +9,7 @@ pub mod formed;
 pub mod lists;
 pub mod steps;
 
+pub use accounts::is_pan;
 pub use answers::{
     Answer, Completion, Event, KeyView, Out, Refusal, Reply, Shown, StatusView, Told,
 };

@@ -1,2 +1,3 @@
-pub mod Numbers
+pub mod Bytes
 pub mod Names
+pub mod Numbers

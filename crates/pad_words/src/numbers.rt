@@ -33,6 +33,15 @@ impl Digit {
     }
 }
 
+impl Default for Digit {
+    /// The digit 0.
+    fn default() -> Digit
+        ensures { result.value ≡ 0 }
+    {
+        Digit { value: 0 }
+    }
+}
+
 /// A session's number, 1 to 16.
 #[derive(Clone, Copy, Debug, PartialEq, Eq)]
 pub struct Session {
