@@ -23,7 +23,7 @@ length-exclusive_or (x ∷ xs) [] same = cc
 length-exclusive_or (x ∷ xs) (y ∷ ys) same = ap suc (length-exclusive_or xs ys (omega arith))
 
 -- a second exclusive or with the same bits undoes the first
-exclusive_or-exclusive_or : (xs ys : List ℕ) → length xs ≡ length ys → exclusive_or (exclusive_or xs ys) ys ≡ xs
+pub exclusive_or-exclusive_or : (xs ys : List ℕ) → length xs ≡ length ys → exclusive_or (exclusive_or xs ys) ys ≡ xs
 unfolding exclusive_or
 exclusive_or-exclusive_or [] ys same = refl
 exclusive_or-exclusive_or (x ∷ xs) [] same = cc

@@ -4,3 +4,4 @@ pub mod SelectionLemmas
 pub mod RoundLemmas
 pub mod ByteLemmas
 pub mod InverseLemmas
+pub mod TripleLemmas

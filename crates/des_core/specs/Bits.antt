@@ -26,7 +26,7 @@ unfoldable pub bytes_of_bits : ℕ → List ℕ → List ℕ
 bytes_of_bits zero bits = []
 bytes_of_bits (suc count) bits = number_of (take 8 bits) ∷ bytes_of_bits count (drop 8 bits)
 
--- the exclusive or, bit by bit
+-- the exclusive or of two lists, place by place
 unfoldable pub exclusive_or : List ℕ → List ℕ → List ℕ
 exclusive_or [] bits = []
 exclusive_or (a ∷ rest) [] = []

@@ -3,3 +3,4 @@ pub mod Permutations
 pub mod KeyTables
 pub mod SelectionFunctions
 pub mod Des
+pub mod TripleDes

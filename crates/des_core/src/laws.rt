@@ -1,5 +1,5 @@
 //! Laws of the cipher. Each is a function with nothing to do: that its contract is proved is the law.
-ghost use Rattle.std.specs.Prelude.{◌≡◌};
+ghost use Rattle.std.specs.Prelude.{◌≡◌, ◌<◌, ℕ, List, length, All};
 ghost use Rattle.des_core.specs.Permutations.{
   initial_permutation,
   final_permutation,
@@ -8,7 +8,9 @@ ghost use Rattle.des_core.specs.Permutations.{
 };
 ghost use Rattle.des_core.specs.KeyTables.{permuted_choice_1, permuted_choice_2, left_shifts};
 ghost use Rattle.des_core.specs.SelectionFunctions.{selection_functions};
+ghost use Rattle.des_core.specs.Bits.{exclusive_or};
 ghost use Rattle.des_core.specs.Des.{des_bytes, des_back_bytes, des_number};
+ghost use Rattle.des_core.specs.TripleDes.{tdea_bytes, tdea_back_bytes};
 
 use crate::tables::{
     BIT_SELECTION, FINAL_PERMUTATION, INITIAL_PERMUTATION, LEFT_SHIFTS, PERMUTED_CHOICE_1,
@@ -37,6 +39,27 @@ pub fn decryption_undoes_encryption(key: Block, x: Block)
 /// For every key, enciphering undoes deciphering.
 pub fn encryption_undoes_decryption(key: Block, x: Block)
     ensures { des_bytes key.0 (des_back_bytes key.0 x.0) ≡ x.0 }
+{}
+
+/// Under a key of eight bytes triple DES is DES.
+pub fn one_key_is_single_des(key: Block, x: Block)
+    ensures encrypted { tdea_bytes key.0 x.0 ≡ des_bytes key.0 x.0 }
+    ensures decrypted { tdea_back_bytes key.0 x.0 ≡ des_back_bytes key.0 x.0 }
+{}
+
+/// For every key, whatever its length, decrypting undoes encrypting.
+pub fn triple_decryption_undoes_encryption(key: &[u8], x: Block)
+    ensures { tdea_back_bytes key.now (tdea_bytes key.now x.0) ≡ x.0 }
+{}
+
+/// Under one key, whatever its length, two blocks that encrypt to the same are the same.
+pub fn triple_encryption_tells_blocks_apart()
+    ensures { (key first second : List ℕ) → length first ≡ 8 → length second ≡ 8 → All (λ byte. byte < 256) first → All (λ byte. byte < 256) second → tdea_bytes key first ≡ tdea_bytes key second → first ≡ second }
+{}
+
+/// A second exclusive or with the same list undoes the first.
+pub fn exclusive_or_undoes_itself()
+    ensures { (xs ys : List ℕ) → length xs ≡ length ys → exclusive_or (exclusive_or xs ys) ys ≡ xs }
 {}
 
 /// Four published answers, computed by the definition alone, with no code: key, block and answer as numbers of 64 bits.
