@@ -1,4 +1,5 @@
 -- Entries, computed by the definitions alone.
+use Rattle.des_core.specs.Bits.{exclusive_or}
 use Rattle.flat_machine.proofs.RunCommands.{begun_entry, block_of, checked, digit, digit_key, ending_keys, entry_keys, four_entered, get_pin, import_clear, iso0_block, masked_keys, pin_key, plain_key, press_cancel, press_enter, refused, with_pin_key, zero_check}
 use Rattle.flat_machine.proofs.RunWords.{all_fit, beginning, done_on_disk, done_quietly, listening_to, quiet, replies_by, said_after, said_by, session_1}
 use Rattle.flat_machine.specs.Ciphers.{zero_block}
@@ -31,6 +32,7 @@ block_of_a_pin_says : said_by block_of_a_pin ≡ out.Told session_1 told.Opened 
     ∷ out.Request session_1 1 ∷ out.Ended session_1 1 (checked zero_check)
     ∷ out.Request session_1 2 ∷ out.Event session_1 event.EnterData ∷ masked_keys 4 ++ plain_key keypad.Enter ∷ out.Ended session_1 2 four_entered
     ∷ out.Request session_1 3 ∷ out.Ended session_1 3 (block_of (0x04 ∷ 0x12 ∷ 0x15 ∷ 0xFE ∷ 0xDC ∷ 0xBA ∷ 0x98 ∷ 0x76 ∷ [])) ∷ []
+unfolding exclusive_or
 block_of_a_pin_says = refl
 
 block_of_a_pin_fits : all_fit opening block_of_a_pin ≡ true

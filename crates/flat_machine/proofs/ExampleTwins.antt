@@ -1,4 +1,5 @@
 -- Two runs that are twins, and two that are none.
+use Rattle.des_core.specs.Bits.{exclusive_or}
 use Rattle.flat_machine.proofs.RunCommands.{begun_entry, digit, entered_0000, entered_1234, get_pin, iso0_block, local_check, press_enter, with_pin_key}
 use Rattle.flat_machine.proofs.RunWords.{done_quietly, setting}
 use Rattle.flat_machine.proofs.TwinRuns.{twins_print_alike}
@@ -29,7 +30,9 @@ they_print_alike = twins_print_alike setting opening checked_1234 checked_9876 t
 
 -- a block tells two PINs apart: these runs release other values, so they are no twins
 block_of_1234 : releases_from setting opening (with_pin_key ++ entered_1234 ++ done_quietly iso0_block) ≡ answer.Block (record { 0 = 0x04 ∷ 0x12 ∷ 0x15 ∷ 0xFE ∷ 0xDC ∷ 0xBA ∷ 0x98 ∷ 0x76 ∷ [] }) ∷ []
+unfolding exclusive_or
 block_of_1234 = refl
 
 block_of_0000 : releases_from setting opening (with_pin_key ++ entered_0000 ++ done_quietly iso0_block) ≡ answer.Block (record { 0 = 0x04 ∷ 0x00 ∷ 0x21 ∷ 0xFE ∷ 0xDC ∷ 0xBA ∷ 0x98 ∷ 0x76 ∷ [] }) ∷ []
+unfolding exclusive_or
 block_of_0000 = refl

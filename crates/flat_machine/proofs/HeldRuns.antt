@@ -14,7 +14,7 @@ use Rattle.flat_machine.specs.Machine.{Act, next, run_from}
 use Rattle.flat_machine.specs.PinFacts.{PinAfter, PinEntered, PinGoes, PinStays, passes_submit}
 use Rattle.flat_machine.specs.RequestSteps.{invalid_if}
 use Rattle.flat_machine.specs.Sound.{Sound, allowed}
-use Rattle.flat_machine.specs.Standard.{all_decimal}
+use Rattle.pad_steps.specs.Accounts.{all_decimal}
 use Rattle.flat_machine.specs.State.{Flat, Running, ends, is_off}
 use Rattle.flat_machine.specs.Works.{Setting}
 use Rattle.key_source.specs.declared.Key.{Key}

@@ -1,3 +1,4 @@
+pub mod BlockLemmas
 pub mod BoolLemmas
 pub mod CryptRuns
 pub mod EndingLemmas
@@ -5,6 +6,7 @@ pub mod EntryCommands
 pub mod EntryLemmas
 pub mod EntryRuns
 pub mod EntryStays
+pub mod ExampleBlocks
 pub mod ExampleTwins
 pub mod FloorLemmas
 pub mod HeldRuns

@@ -1,4 +1,5 @@
 -- PIN blocks and checks, and how long a PIN is held, computed by the definitions alone.
+use Rattle.des_core.specs.Bits.{exclusive_or}
 use Rattle.flat_machine.proofs.RunCommands.{begun_entry, block_of, checked, digit, done, ending_keys, entered_0000, entered_1234, entry_keys, four_entered, get_pin, iso0_block, local_check, pin_block, pin_key, press_cancel, press_enter, refused, with_pin_key, yes, zero_check}
 use Rattle.flat_machine.proofs.RunWords.{done_quietly, quiet, replies_by, said_after, session_1, zero_encrypted}
 use Rattle.flat_machine.specs.Machine.{Act}
@@ -21,12 +22,14 @@ ibm_3624_block = refl
 -- the same under a second key, with XOR data that undoes the first encryption; XOR data without a second key is refused
 second_key_and_xor_data : replies_by (with_pin_key ++ entered_0000 ++ done_quietly (pin_block form.Ibm3624 pin_key (Some pin_key) (Some (record { 0 = zero_encrypted })) [] 0) ++ done_quietly (pin_block form.Ibm3624 pin_key None (Some (record { 0 = zero_encrypted })) [] 0))
     ≡ checked zero_check ∷ four_entered ∷ block_of zero_encrypted ∷ refused refusal.InvalidData ∷ []
+unfolding exclusive_or
 second_key_and_xor_data = refl
 
 -- ISO 9564-1 format 1: the transaction digits follow the PIN. Format 3: fill nibbles from the fill words 0 to 9, ten for a PIN of four digits
 iso_1_and_3_blocks : replies_by (with_pin_key ++ entered_1234 ++ done_quietly (pin_block form.Iso1 pin_key None None (0 ∷ 1 ∷ 2 ∷ 3 ∷ 4 ∷ 5 ∷ 6 ∷ 7 ∷ 8 ∷ 9 ∷ []) 0)
     ++ entered_1234 ++ done_quietly (pin_block form.Iso3 pin_key None None (5 ∷ 4 ∷ 3 ∷ 2 ∷ 1 ∷ 0 ∷ 1 ∷ 2 ∷ 3 ∷ 4 ∷ 5 ∷ 6 ∷ 7 ∷ 8 ∷ 9 ∷ []) 0))
     ≡ checked zero_check ∷ four_entered ∷ block_of (0x14 ∷ 0x12 ∷ 0x34 ∷ 0x01 ∷ 0x23 ∷ 0x45 ∷ 0x67 ∷ 0x89 ∷ []) ∷ four_entered ∷ block_of (0x34 ∷ 0x12 ∷ 0x15 ∷ 0xAA ∷ 0xEE ∷ 0xAA ∷ 0xCC ∷ 0x44 ∷ []) ∷ []
+unfolding exclusive_or
 iso_1_and_3_blocks = refl
 
 -- the natural digits are 8206 here, and with the offset 3038 they are 1234. The PIN goes with its first use; with maintain on it stays until maintain is off

@@ -15,7 +15,7 @@ use Rattle.pad_steps.specs.declared.steps.DiskWord.TheVariants as word
 
 -- a Finish says the same where as many digits are held and the released values are equal
 
-some_one : (x z : Answer) → Some x ≡ Some z → x ≡ z
+pub some_one : (x z : Answer) → Some x ≡ Some z → x ≡ z
 some_one x z e = cc
 
 same_gives : (p : Public) (a : Asked Command) (y : Readied) (x z : Answer) → Some z ≡ Some x → answers_pin p a y z ≡ answers_pin p a y x

@@ -1,18 +1,13 @@
 -- Modes (FIPS 81), message authentication codes and key check values over a block cipher.
+use Rattle.des_core.specs.Bits.{exclusive_or}
 use Rattle.pad_steps.specs.declared.commands.Verify.{Verify}
-use Rattle.std.specs.Prelude.{List, None, Option, Some, [], bit_xor, drop, length, replicate, suc, take, zero, ℕ, ◌%◌, ◌*◌, ◌++◌, ◌+◌, ◌-◌, ◌/◌, ◌∷◌}
+use Rattle.std.specs.Prelude.{List, None, Option, Some, [], drop, length, replicate, suc, take, zero, ℕ, ◌%◌, ◌++◌, ◌-◌, ◌/◌, ◌∷◌}
 use Rattle.pad_steps.specs.declared.commands.Verify.TheVariants as verify
 
 -- triple DES of one block of 8 bytes under a key of 8, 16 or 24 bytes (FIPS 46-3), and its inverse
 pub record Ciphers : Type 0 where
   pub tdea : List ℕ → List ℕ → List ℕ
   pub tdea_back : List ℕ → List ℕ → List ℕ
-
--- XOR place by place, as long as the shorter list
-abbrev pub xor_bytes : List ℕ → List ℕ → List ℕ
-xor_bytes [] ys = []
-xor_bytes (x ∷ xs) [] = []
-xor_bytes (x ∷ xs) (y ∷ ys) = bit_xor x y ∷ xor_bytes xs ys
 
 -- the first `count` blocks of 8 bytes
 abbrev pub blocks : ℕ → List ℕ → List (List ℕ)
@@ -35,27 +30,21 @@ ecb encrypt (block ∷ rest) = encrypt block ++ ecb encrypt rest
 -- cipher block chaining (FIPS 81): each block is XORed with the cipher block before it, and encrypted
 abbrev pub cbc : (List ℕ → List ℕ) → List ℕ → List (List ℕ) → List ℕ
 cbc encrypt start [] = []
-cbc encrypt start (block ∷ rest) = encrypt (xor_bytes block start) ++ cbc encrypt (encrypt (xor_bytes block start)) rest
+cbc encrypt start (block ∷ rest) = encrypt (exclusive_or block start) ++ cbc encrypt (encrypt (exclusive_or block start)) rest
 
 -- the inverse of cipher block chaining
 abbrev pub cbc_back : (List ℕ → List ℕ) → List ℕ → List (List ℕ) → List ℕ
 cbc_back decrypt start [] = []
-cbc_back decrypt start (block ∷ rest) = xor_bytes (decrypt block) start ++ cbc_back decrypt block rest
+cbc_back decrypt start (block ∷ rest) = exclusive_or (decrypt block) start ++ cbc_back decrypt block rest
 
 -- the last cipher block of cipher block chaining, or the start value where there is no block
 abbrev pub chained : (List ℕ → List ℕ) → List ℕ → List (List ℕ) → List ℕ
 chained encrypt start [] = start
-chained encrypt start (block ∷ rest) = chained encrypt (encrypt (xor_bytes block start)) rest
+chained encrypt start (block ∷ rest) = chained encrypt (encrypt (exclusive_or block start)) rest
 
 -- the bytes padded on the right with one byte to whole blocks
 abbrev pub padded : List ℕ → ℕ → List ℕ
 padded bytes pad = bytes ++ replicate ((8 - length bytes % 8) % 8) pad
-
--- nibbles as bytes, the left nibble first
-abbrev pub packed : List ℕ → List ℕ
-packed [] = []
-packed (left ∷ []) = (left * 16) ∷ []
-packed (left ∷ right ∷ rest) = (left * 16 + right) ∷ packed rest
 
 module _ (cipher : Ciphers) where
   -- the key check value: none; the first three bytes of the key's own first block encrypted under the key (KCVSELF); or of the zero block (KCVZERO)

@@ -1,5 +1,5 @@
 -- Begin and Press. Press is the one step that sees which digit was pressed.
-use Rattle.flat_machine.specs.Ciphers.{Ciphers, check_value, packed}
+use Rattle.flat_machine.specs.Ciphers.{Ciphers, check_value}
 use Rattle.flat_machine.specs.Entries.{Entry, active_seen, entered, entry_of, entry_refusal, is_key_part, is_pin}
 use Rattle.flat_machine.specs.Requests.{begun, eligible, finished, refused_at_begin, working}
 use Rattle.flat_machine.specs.declared.types.Asked.{Asked}
@@ -16,6 +16,7 @@ use Rattle.pad_steps.specs.declared.commands.EntryKind.{EntryKind}
 use Rattle.pad_steps.specs.declared.answers.Refusal.{Refusal}
 use Rattle.pad_steps.specs.declared.answers.Shown.{Shown}
 use Rattle.pad_steps.specs.declared.commands.Verify.{Verify}
+use Rattle.pad_words.specs.Bytes.{packed}
 use Rattle.std.specs.Prelude.{List, None, Option, Some, [], if◌then◌else◌, length, true, ℕ, ◌++◌, ◌∷◌}
 use Rattle.pad_steps.specs.declared.answers.Out.TheVariants as out
 use Rattle.pad_steps.specs.declared.answers.Reply.TheVariants as replied

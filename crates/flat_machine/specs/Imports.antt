@@ -1,11 +1,13 @@
 -- IMPORT_KEY: a value in clear, sealed under a key-encrypting key, or from the part buffer of SECUREKEY_ENTRY. A key may come in parts, joined by XOR; these rules are this project's own.
-use Rattle.flat_machine.specs.Ciphers.{Ciphers, blocks_of, ecb, packed, xor_bytes}
+use Rattle.des_core.specs.Bits.{exclusive_or}
+use Rattle.flat_machine.specs.Ciphers.{Ciphers, blocks_of, ecb}
 use Rattle.flat_machine.specs.Decisions.{Decided, Goes, Stops, and_then, unless}
 use Rattle.flat_machine.specs.KeyRows.{KeyRows, empty_slot, find_key, permit_maybe}
 use Rattle.key_attributes.specs.UseBits.{forbids_duplicates, has_construct, has_secure_construct, plain_uses, under_construction}
 use Rattle.key_attributes.specs.declared.KeyRow.{KeyRow}
 use Rattle.pad_steps.specs.declared.commands.ImportRequest.{ImportRequest}
 use Rattle.pad_steps.specs.declared.commands.ImportSource.{ImportSource}
+use Rattle.pad_words.specs.Bytes.{packed}
 use Rattle.std.specs.Prelude.{Bool, List, None, Option, Some, [], bytes_eq, false, if◌then◌else◌, length, nat_lt, not, true, ℕ, ◌&&◌, ◌==◌, ◌||◌, ◌∷◌}
 use Rattle.pad_steps.specs.declared.answers.Refusal.TheVariants as refusals
 use Rattle.pad_steps.specs.declared.commands.ImportSource.TheVariants as origin
@@ -61,7 +63,7 @@ wrong_value_length size kek old = not (is_key_length size) || longer_than_key si
 -- the value XORed with that of the key under construction, if there is one
 abbrev pub joined : Option KeyRow → List ℕ → List ℕ
 joined None value = value
-joined (Some old) value = xor_bytes value old.value
+joined (Some old) value = exclusive_or value old.value
 
 -- a complete row of another name has the same value, and one of the two rows forbids that (NODUPLICATE)
 abbrev pub is_duplicate : KeyRow → KeyRow → Bool

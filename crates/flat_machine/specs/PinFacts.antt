@@ -1,8 +1,8 @@
 -- Words for what is so of PINs and key parts in every run.
 use Rattle.flat_machine.specs.Entries.{active_seen, entered, is_pin}
 use Rattle.flat_machine.specs.RequestSteps.{command_refusal, is_part_count}
-use Rattle.flat_machine.specs.Requests.{pending_where}
-use Rattle.flat_machine.specs.State.{Flat, Running, running}
+use Rattle.flat_machine.specs.Requests.{pending_where, working}
+use Rattle.flat_machine.specs.State.{Flat, Public, Running, running}
 use Rattle.flat_machine.specs.Works.{Works}
 use Rattle.flat_machine.specs.declared.types.Asked.{Asked}
 use Rattle.flat_machine.specs.declared.types.Device.TheVariants.{Off}
@@ -15,15 +15,19 @@ use Rattle.pad_steps.specs.declared.answers.Event.{Event}
 use Rattle.pad_steps.specs.declared.answers.Out.{Out}
 use Rattle.pad_steps.specs.declared.answers.Reply.{Reply}
 use Rattle.pad_steps.specs.declared.answers.Shown.{Shown}
+use Rattle.pad_steps.specs.declared.commands.BlockRequest.{BlockRequest}
 use Rattle.pad_steps.specs.declared.commands.Command.{Command}
 use Rattle.pad_steps.specs.declared.steps.Step.{Step}
-use Rattle.std.specs.Prelude.{Bool, List, Some, [], false, is_some, length, not, true, ℕ, ◌==◌, ◌||◌, ◌∷◌, ◌≡◌}
+use Rattle.std.specs.Prelude.{Bool, List, None, Some, [], false, is_some, length, not, true, ℕ, ◌==◌, ◌||◌, ◌∷◌, ◌≡◌}
 use Rattle.key_source.specs.declared.Key.TheVariants as keypad
 use Rattle.pad_steps.specs.declared.answers.Answer.TheVariants as answers
 use Rattle.pad_steps.specs.declared.answers.Event.TheVariants as events
 use Rattle.pad_steps.specs.declared.answers.Out.TheVariants as out
 use Rattle.pad_steps.specs.declared.answers.Reply.TheVariants as replied
 use Rattle.pad_steps.specs.declared.answers.Shown.TheVariants as shows
+use Rattle.pad_steps.specs.declared.commands.Command.TheVariants as commands
+use Rattle.pad_steps.specs.declared.commands.Form.TheVariants as forms
+use Rattle.pad_steps.specs.declared.commands.PinRequest.TheVariants as pin
 use Rattle.pad_steps.specs.declared.steps.Step.TheVariants as steps
 
 -- the key is one of the digits 0 to 9
@@ -105,6 +109,14 @@ leaves_pin (steps.Tick ticks) = true
 leaves_pin (steps.Ask session question) = true
 leaves_pin steps.Off = false
 leaves_pin steps.Boot = false
+
+-- a request for a block of ISO 9564-1 format 0 under one key is in work
+pub record Format0InWork (public : Public) (block : BlockRequest) : Type 0 where
+  pub asked : Asked Command
+  pub in_work : working public.requests ≡ Some asked
+  pub command : asked.command ≡ commands.Pin (pin.Block block)
+  pub form : block.form ≡ forms.Iso0
+  pub one_key : block.second ≡ None
 
 -- the device is off, and nothing is pending or held: no PIN, no key part, and maintain is off
 pub record PoweredOff (state : Flat) : Type 0 where

@@ -1,7 +1,9 @@
--- The standard PIN work: PIN blocks of ISO 9564-1 formats 0, 1 and 3, of the IBM 3624 and of Diebold (GET_PINBLOCK), and the local check of an IBM 3624 PIN (LOCAL_DES).
-use Rattle.flat_machine.specs.Ciphers.{Ciphers, packed, xor_bytes}
+-- The standard PIN work, PIN blocks (GET_PINBLOCK) and the local check of an IBM 3624 PIN (LOCAL_DES), and the setting of the pad.
+use Rattle.des_core.specs.Bits.{exclusive_or}
+use Rattle.des_core.specs.TripleDes.{tdea_back_bytes, tdea_bytes}
+use Rattle.flat_machine.specs.Ciphers.{Ciphers}
 use Rattle.flat_machine.specs.Decisions.{Decided, Goes, Stops, unless}
-use Rattle.flat_machine.specs.Works.{Wants, Works}
+use Rattle.flat_machine.specs.Works.{Setting, Wants, Works}
 use Rattle.pad_steps.specs.declared.answers.Answer.{Answer}
 use Rattle.pad_steps.specs.declared.commands.BlockRequest.{BlockRequest}
 use Rattle.pad_steps.specs.declared.commands.CheckRequest.{CheckRequest}
@@ -9,32 +11,14 @@ use Rattle.pad_steps.specs.declared.commands.Form.{Form}
 use Rattle.pad_steps.specs.declared.commands.PinRequest.{PinRequest}
 use Rattle.pad_steps.specs.declared.answers.Refusal.{Refusal}
 use Rattle.pad_words.specs.declared.bytes.Block.{Block}
-use Rattle.std.specs.List.{list_all}
-use Rattle.std.specs.Prelude.{Bool, List, None, Option, Some, [], bytes_eq, drop, false, if◌then◌else◌, is_some, length, map, nat_le, nat_lt, not, replicate, slice_index, take, true, ℕ, ◌%◌, ◌&&◌, ◌++◌, ◌+◌, ◌-◌, ◌/◌, ◌==◌, ◌||◌, ◌∷◌}
+use Rattle.pad_words.specs.Bytes.{packed, unpacked}
+use Rattle.pin_blocks.specs.Blocks.{block_nibbles, fits_form, longest, sixteen}
+use Rattle.std.specs.Prelude.{Bool, List, None, Option, Some, [], bytes_eq, false, if◌then◌else◌, is_some, length, map, nat_lt, not, replicate, slice_index, take, true, ℕ, ◌%◌, ◌&&◌, ◌++◌, ◌+◌, ◌-◌, ◌==◌, ◌||◌, ◌∷◌}
 use Rattle.pad_steps.specs.declared.answers.Answer.TheVariants as answers
 use Rattle.pad_steps.specs.declared.answers.Refusal.TheVariants as refusals
 use Rattle.pad_steps.specs.declared.commands.Form.TheVariants as forms
 use Rattle.key_attributes.specs.declared.Use.TheVariants as purpose
 use Rattle.pad_steps.specs.declared.commands.PinRequest.TheVariants as pin
-
--- all are decimal digits
-abbrev pub all_decimal : List ℕ → Bool
-all_decimal values = list_all (λ value. nat_lt value 10) values
-
--- 12 to 19 decimal digits: a PAN without its check digit
-abbrev pub is_pan : List ℕ → Bool
-is_pan digits = nat_le 12 (length digits) && nat_le (length digits) 19 && all_decimal digits
-
--- the customer data that a form takes: a PAN for formats 0 and 3, ten digits for format 1, one hexadecimal digit for Diebold with a coordination number, none for the others
-abbrev pub fits_form : Form → List ℕ → Bool
-fits_form forms.Iso0 customer = is_pan customer
-fits_form forms.Iso1 customer = (length customer == 10) && all_decimal customer
-fits_form forms.Iso2 customer = false
-fits_form forms.Iso3 customer = is_pan customer
-fits_form forms.Iso4 customer = false
-fits_form forms.Ibm3624 customer = length customer == 0
-fits_form forms.Diebold customer = length customer == 0
-fits_form forms.DieboldCo customer = length customer == 1
 
 -- blocks of this form are made; those of ISO formats 2 and 4 are not
 abbrev pub is_built : Form → Bool
@@ -46,17 +30,6 @@ is_built forms.Iso4 = false
 is_built forms.Ibm3624 = true
 is_built forms.Diebold = true
 is_built forms.DieboldCo = true
-
--- the greatest PIN length of a form; the least is 4
-abbrev pub longest : Form → ℕ
-longest forms.Iso0 = 12
-longest forms.Iso1 = 12
-longest forms.Iso2 = 0
-longest forms.Iso3 = 12
-longest forms.Iso4 = 0
-longest forms.Ibm3624 = 16
-longest forms.Diebold = 16
-longest forms.DieboldCo = 12
 
 -- why a block is refused as it is submitted: FORMATNOTSUPPORTED, then INVALIDDATA for customer data that does not fit, or XOR data without a second key
 abbrev pub admit_block : BlockRequest → Option Refusal
@@ -100,38 +73,10 @@ standard_ready (pin.Block block) size first second = ready_block block.form size
 standard_ready (pin.Check check) size first second = unless (nat_lt size check.count) refusals.LengthError (Goes 0)
 standard_ready (pin.Extra extra) size first second = Stops refusals.LengthError None
 
--- the first 16 nibbles
-abbrev pub sixteen : List ℕ → List ℕ
-sixteen nibbles = take 16 nibbles
-
--- the account number field of ISO 9564-1: 0000 and the 12 rightmost digits of the PAN
-abbrev pub pan_field : List ℕ → List ℕ
-pan_field pan = 0 ∷ 0 ∷ 0 ∷ 0 ∷ drop (length pan - 12) pan
-
--- a fill nibble is 10 and the fill word modulo 6, so it is A to F
-abbrev pub fill_nibbles : List ℕ → List ℕ
-fill_nibbles words = map (λ word. 10 + word % 6) words
-
--- the 16 nibbles of a form. Formats 0 and 3 (ISO 9564-1): control nibble, length, PIN, fill, XORed with the account number field. Format 1: control nibble, length, PIN, transaction digits. The others: the PIN, after the coordination number if there is one, and the padding nibble
-abbrev pub block_nibbles : Form → List ℕ → List ℕ → ℕ → List ℕ → List ℕ
-block_nibbles forms.Iso0 digits customer pad fill = xor_bytes (sixteen (0 ∷ length digits ∷ digits ++ replicate 16 15)) (pan_field customer)
-block_nibbles forms.Iso1 digits customer pad fill = sixteen (1 ∷ length digits ∷ digits ++ customer)
-block_nibbles forms.Iso2 digits customer pad fill = []
-block_nibbles forms.Iso3 digits customer pad fill = xor_bytes (sixteen (3 ∷ length digits ∷ digits ++ fill_nibbles fill)) (pan_field customer)
-block_nibbles forms.Iso4 digits customer pad fill = []
-block_nibbles forms.Ibm3624 digits customer pad fill = sixteen (digits ++ replicate 16 pad)
-block_nibbles forms.Diebold digits customer pad fill = sixteen (digits ++ replicate 16 pad)
-block_nibbles forms.DieboldCo digits customer pad fill = sixteen (customer ++ digits ++ replicate 16 pad)
-
--- bytes as nibbles, the left nibble first
-abbrev pub unpacked : List ℕ → List ℕ
-unpacked [] = []
-unpacked (byte ∷ rest) = byte / 16 ∷ byte % 16 ∷ unpacked rest
-
 -- XORed with the data, if there is any
 abbrev pub xor_with : Option Block → List ℕ → List ℕ
 xor_with None bytes = bytes
-xor_with (Some block) bytes = xor_bytes bytes block.0
+xor_with (Some block) bytes = exclusive_or bytes block.0
 
 -- each nibble replaced by the digit that the table has for it
 abbrev pub looked_up : List ℕ → List ℕ → List ℕ
@@ -175,3 +120,11 @@ module _ (cipher : Ciphers) where
   -- the standard work: blocks and checks
   abbrev pub standard_work : Works
   standard_work = record { admit = standard_admit; wants = standard_wants; ready = standard_ready; result = standard_result }
+
+-- triple DES
+abbrev pub triple_des : Ciphers
+triple_des = record { tdea = tdea_bytes; tdea_back = tdea_back_bytes }
+
+-- what a run of the pad has from outside: triple DES, blocks and checks, and these fill words
+abbrev pub standard_setting : (ℕ → ℕ) → Setting
+standard_setting fill_word = record { cipher = triple_des; works = standard_work triple_des; fill_word = fill_word }

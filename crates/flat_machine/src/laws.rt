@@ -1,5 +1,6 @@
-//! Laws of the definitions, by theme. Each law is a function with an empty body, called for its clauses.
+//! Laws of the definitions, by theme. Each law is a function with nothing to do, called for its clauses.
 
+pub mod blocks;
 pub mod histories;
 pub mod kept;
 pub mod keys;

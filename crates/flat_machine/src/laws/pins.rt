@@ -23,7 +23,7 @@ ghost use Rattle.flat_machine.specs.Works.{Readied, Setting};
 ghost use Rattle.flat_machine.specs.State.{Flat, Running, running, is_off};
 ghost use Rattle.flat_machine.specs.Machine.{Act, next, line_of, run_from, fits};
 ghost use Rattle.flat_machine.specs.Facts.{IsStart};
-ghost use Rattle.flat_machine.specs.Standard.{all_decimal};
+ghost use Rattle.pad_steps.specs.Accounts.{all_decimal};
 ghost use Rattle.flat_machine.specs.PinFacts.{hides_digits, PinAfter, PoweredOff, leaves_pin};
 
 /// No digit of a PIN entry stands in a line: a masked press is printed without its key, KEY events show no digit, and the reply has the number of digits alone.
