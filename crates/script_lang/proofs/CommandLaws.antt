@@ -2,14 +2,19 @@
 use Rattle.std.proofs.Common.{◌≡◌, ℕ, List, Some, refl, ap, subst, ◌∙◌, arith, rules}
 use Rattle.std.specs.Prelude.{codes}
 use Rattle.script_lang.specs.Words.{Says}
-use Rattle.script_lang.specs.Reading.{read_number, read_rules, command_rows, read_command}
+use Rattle.script_lang.specs.Reading.{read_number, read_rules, read_pinblock, read_import, command_rows, read_command}
 use Rattle.std.specs.Option.{option_map}
-use Rattle.script_lang.specs.Spelling.{number_word, end_word, mask_word, rules_words, command_words}
+use Rattle.script_lang.specs.Spelling.{number_word, end_word, mask_word, rules_words, block_words, import_words, command_words}
+use Rattle.pad_steps.specs.declared.commands.BlockRequest.{BlockRequest}
 use Rattle.pad_steps.specs.declared.commands.EntryRules.{EntryRules}
+use Rattle.pad_steps.specs.declared.commands.ImportRequest.{ImportRequest}
+use Rattle.pad_steps.specs.declared.commands.PinRequest.TheVariants as pin
 use Rattle.pad_steps.specs.declared.commands.Command.{Command}
 use Rattle.pad_steps.specs.declared.commands.Command.TheVariants as command
 use Rattle.script_lang.proofs.Fits.{CommandFits, MaskFits, RulesFit}
 use Rattle.script_lang.proofs.HexLaws.{mask_field}
+use Rattle.script_lang.proofs.ImportLaws.{import_reads}
+use Rattle.script_lang.proofs.PinBlockLaws.{block_reads}
 use Rattle.script_lang.proofs.NumberLaws.{Within, number_field}
 use Rattle.script_lang.proofs.Options.{mapped_some}
 use Rattle.script_lang.proofs.Readers.{Always, Ended, IsField, Reads, Then, ended_reads, with_field_reads}
@@ -53,9 +58,21 @@ getpin_takes bytes c e =
     let s = rules_takes bytes r.0 r.1 in
     subst (λ c. CommandFits c × After (codes "getpin") bytes (command_words c)) r.2 (s.0, (refl, s.1))
 
+pinblock_takes : RowTakes CommandFits command_words (codes "pinblock", λ bytes. option_map (λ (request : BlockRequest). command.Pin (pin.Block request)) (read_pinblock bytes))
+pinblock_takes bytes c e =
+    let r = mapped_some (read_pinblock bytes) (λ (request : BlockRequest). command.Pin (pin.Block request)) c e in
+    let s = block_reads.takes bytes r.0 r.1 in
+    subst (λ c. CommandFits c × After (codes "pinblock") bytes (command_words c)) r.2 (s.0, (refl, s.1))
+
+import_takes : RowTakes CommandFits command_words (codes "import", λ bytes. option_map (λ (request : ImportRequest). command.ImportKey request) (read_import bytes))
+import_takes bytes c e =
+    let r = mapped_some (read_import bytes) (λ (request : ImportRequest). command.ImportKey request) c e in
+    let s = import_reads.takes bytes r.0 r.1 in
+    subst (λ c. CommandFits c × After (codes "import") bytes (command_words c)) r.2 (s.0, (refl, s.1))
+
 command_takes : (bytes : List ℕ) (c : Command) → read_command bytes ≡ Some c → Spelled CommandFits command_words c bytes
 unfolding read_command
-command_takes = one_of_takes CommandFits command_words command_rows (getpin_takes, tt)
+command_takes = one_of_takes CommandFits command_words command_rows (getpin_takes, (pinblock_takes, (import_takes, tt)))
 
 command_again : (bytes : List ℕ) (c : Command) → CommandFits c → Says bytes (command_words c) → read_command bytes ≡ Some c
 unfolding read_command
@@ -63,9 +80,11 @@ command_again bytes (command.GetPin rules) fits s = one_of_again command_rows (c
 command_again bytes (command.GetData rules) fits s = absurd fits
 command_again bytes (command.SecureKeyEntry rules) fits s = absurd fits
 command_again bytes (command.MaintainPin on) fits s = absurd fits
-command_again bytes (command.Pin request) fits s = absurd fits
+command_again bytes (command.Pin (pin.Block r)) fits s = one_of_again command_rows (codes "pinblock") (block_words r) bytes s ∙ ap (option_map (λ (request : BlockRequest). command.Pin (pin.Block request))) (block_reads.again s.0 r (fits, s.2))
+command_again bytes (command.Pin (pin.Check r)) fits s = absurd fits
+command_again bytes (command.Pin (pin.Extra r)) fits s = absurd fits
 command_again bytes (command.Crypt request) fits s = absurd fits
-command_again bytes (command.ImportKey request) fits s = absurd fits
+command_again bytes (command.ImportKey r) fits s = one_of_again command_rows (codes "import") (import_words r) bytes s ∙ ap (option_map (λ (request : ImportRequest). command.ImportKey request)) (import_reads.again s.0 r (fits, s.2))
 command_again bytes (command.DeleteKey name) fits s = absurd fits
 command_again bytes command.Init fits s = absurd fits
 command_again bytes command.Reset fits s = absurd fits

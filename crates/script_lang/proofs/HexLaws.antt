@@ -4,9 +4,9 @@ use Rattle.std.specs.List.{AllByRecursion}
 use Rattle.std.proofs.lemmas.List.{take_at, drop_at, take-append-drop, length-take, length-drop}
 use Rattle.std.proofs.lemmas.Bool.{eqb-true}
 use Rattle.script_lang.specs.Words.{hex_value, hex_values, with_value}
-use Rattle.script_lang.specs.Reading.{◌>>=◌, digits_onto, hex_number, read_mask}
-use Rattle.script_lang.specs.Spelling.{mask_word, four_values, eight_values}
-use Rattle.script_lang.proofs.Fits.{MaskFits}
+use Rattle.script_lang.specs.Reading.{◌>>=◌, digits_onto, hex_number, read_mask, read_uses}
+use Rattle.script_lang.specs.Spelling.{mask_word, four_values, eight_values, uses_word}
+use Rattle.script_lang.proofs.Fits.{IsNibble, MaskFits, UsesFit}
 use Rattle.script_lang.proofs.Options.{bind_some, guard_some, some_is}
 use Rattle.script_lang.proofs.Readers.{IsField}
 
@@ -14,9 +14,6 @@ use Rattle.script_lang.proofs.Readers.{IsField}
 abbrev pub hex_fold : ℕ → List ℕ → ℕ
 hex_fold n [] = n
 hex_fold n (d ∷ ds) = hex_fold (16 * n + d) ds
-
-abbrev pub IsNibble : ℕ → Type 0
-IsNibble d = d < 16
 
 pub hex_value-small : (c v : ℕ) → hex_value c ≡ Some v → v < 16
 hex_value-small c v h = grind (arith)
@@ -136,4 +133,26 @@ mask_field = record {
       let k = hex8_again (take 8 text) m.keys fits.0 (s.2 ∙ ap (λ (ds : List ℕ). Some ds) h.0) in
       let f = hex8_again (drop 8 text) m.fdks fits.1 (s.3 ∙ ap (λ (ds : List ℕ). Some ds) h.1) in
       rw (long, k, f) refl;
+}
+
+-- ---- numbers of four digits
+
+four_folded : (ds : List ℕ) → length ds ≡ 4 → AllByRecursion IsNibble ds → (four_values (hex_fold 0 ds) ≡ ds) × (hex_fold 0 ds < 65536)
+four_folded (a ∷ b ∷ c ∷ d ∷ []) len all = (four_of a b c d _ all.0 all.1.0 all.1.1.0 all.1.1.1.0 (omega arith), omega (arith, all.0, all.1.0, all.1.1.0, all.1.1.1.0))
+four_folded ds len all = absurd (omega (arith, len))
+
+pub uses_field : IsField read_uses UsesFit uses_word
+unfolding read_uses
+uses_field = record {
+  takes = λ text uses e.
+      let g = guard_some (eqb (length text) 4) _ uses e in
+      let t = hex_takes text 0 uses g.1 in
+      let f = four_folded t.0 (digits_len text t.0 t.1 ∙ eqb-true (length text) 4 g.0) (digits_small text t.0 t.1) in
+      let is : four_values uses ≡ t.0 = ap four_values (sym t.2) ∙ f.0 in
+      (omega (arith, t.2, f.1), t.1 ∙ ap (λ (ds : List ℕ). Some ds) (sym is));
+  again = λ text uses small says.
+      let long : length text ≡ 4 = sym (digits_len text (four_values uses) says) in
+      let same : hex_fold 0 (four_values uses) ≡ uses = fold_four 0 uses [] small ∙ omega (arith) in
+      let value : hex_number text ≡ Some uses = hex_again text (four_values uses) 0 says ∙ ap (λ (n : ℕ). Some n) same in
+      rw (long, value) refl;
 }

@@ -7,10 +7,17 @@ pub mod RowLaws
 pub mod NumberLaws
 pub mod WordLaws
 pub mod HexLaws
+pub mod NameLaws
+pub mod NibbleLaws
+pub mod DigitLemmas
+pub mod ByteLaws
 pub mod KeyLaws
 pub mod Fits
+pub mod PinBlockLaws
+pub mod ImportLaws
 pub mod CommandLaws
 pub mod LineLaws
+pub mod WordPrints
 pub mod PrintLaws
 pub mod ReadLaws
 pub mod WriteLemmas

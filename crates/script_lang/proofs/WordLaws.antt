@@ -1,9 +1,13 @@
 -- Words of few values.
 use Rattle.std.proofs.Common.{◌≡◌, ℕ, List, Option, Some, None, Bool, true, false, cond, refl, subst, inl, inr}
 use Rattle.std.specs.Prelude.{bytes_eq, codes}
-use Rattle.script_lang.specs.Reading.{read_end, read_classes}
+use Rattle.script_lang.specs.Reading.{read_end, read_classes, read_verify, read_form}
+use Rattle.pad_steps.specs.declared.commands.Form.{Form}
+use Rattle.pad_steps.specs.declared.commands.Form.TheVariants as forms
+use Rattle.pad_steps.specs.declared.commands.Verify.{Verify}
+use Rattle.pad_steps.specs.declared.commands.Verify.TheVariants as verify
 use Rattle.pad_steps.specs.declared.steps.Classes.{Classes}
-use Rattle.script_lang.specs.Spelling.{end_text, end_word, classes_text, classes_word}
+use Rattle.script_lang.specs.Spelling.{end_text, end_word, classes_text, classes_word, verify_text, verify_word, form_text, form_word}
 use Rattle.script_lang.proofs.Options.{cases_some, same_bytes, some_is}
 use Rattle.script_lang.proofs.Readers.{Always, IsField}
 
@@ -43,4 +47,52 @@ classes_field = record {
             (λ e. word_cases text (codes "both") (record { service = true; execute = true }) None c P e (λ is. is) (λ e. absurd cc)))),
       );
   again = λ text c h is. rw is (classes_again c.service c.execute);
+}
+
+verify_again : (v : Verify) → read_verify (verify_text v) ≡ Some v
+unfolding read_verify verify_text
+verify_again verify.Nothing = refl
+verify_again verify.Own = refl
+verify_again verify.Zero = refl
+
+pub verify_field : IsField read_verify Always verify_word
+unfolding read_verify verify_text
+verify_field = record {
+  takes = λ text v e.
+      let P : Verify → Type 0 = λ v. text ≡ verify_text v in (
+        tt,
+        word_cases text (codes "none") verify.Nothing _ v P e (λ is. is)
+            (λ e. word_cases text (codes "self") verify.Own _ v P e (λ is. is)
+            (λ e. word_cases text (codes "zero") verify.Zero None v P e (λ is. is) (λ e. absurd cc))),
+      );
+  again = λ text v h is. rw is (verify_again v);
+}
+
+form_again : (f : Form) → read_form (form_text f) ≡ Some f
+unfolding read_form form_text
+form_again forms.Iso0 = refl
+form_again forms.Iso1 = refl
+form_again forms.Iso2 = refl
+form_again forms.Iso3 = refl
+form_again forms.Iso4 = refl
+form_again forms.Ibm3624 = refl
+form_again forms.Diebold = refl
+form_again forms.DieboldCo = refl
+
+pub form_field : IsField read_form Always form_word
+unfolding read_form form_text
+form_field = record {
+  takes = λ text f e.
+      let P : Form → Type 0 = λ f. text ≡ form_text f in (
+        tt,
+        word_cases text (codes "iso0") forms.Iso0 _ f P e (λ is. is)
+            (λ e. word_cases text (codes "iso1") forms.Iso1 _ f P e (λ is. is)
+            (λ e. word_cases text (codes "iso2") forms.Iso2 _ f P e (λ is. is)
+            (λ e. word_cases text (codes "iso3") forms.Iso3 _ f P e (λ is. is)
+            (λ e. word_cases text (codes "iso4") forms.Iso4 _ f P e (λ is. is)
+            (λ e. word_cases text (codes "ibm3624") forms.Ibm3624 _ f P e (λ is. is)
+            (λ e. word_cases text (codes "diebold") forms.Diebold _ f P e (λ is. is)
+            (λ e. word_cases text (codes "dieboldco") forms.DieboldCo None f P e (λ is. is) (λ e. absurd cc)))))))),
+      );
+  again = λ text f h is. rw is (form_again f);
 }

@@ -1,22 +1,36 @@
 -- A line read from left to right, word by word.
-use Rattle.std.specs.Prelude.{Bool, List, None, Ok, Err, Option, Result, Some, [], bytes_eq, codes, drop, false, if◌then◌else◌, length, nat_le, not, slice_index, take, true, ℕ, ◌&&◌, ◌*◌, ◌+◌, ◌-◌, ◌==◌, ◌≡◌, ◌∷◌}
+use Rattle.std.specs.Prelude.{Bool, List, None, Ok, Err, Option, Result, Some, [], bytes_eq, codes, drop, false, if◌then◌else◌, length, nat_le, not, slice_index, take, true, ℕ, ◌%◌, ◌&&◌, ◌*◌, ◌+◌, ◌-◌, ◌/◌, ◌==◌, ◌≡◌, ◌∷◌}
 use Rattle.std.specs.Option.{option_map}
 use Rattle.std.specs.List.{prefix_len}
 use denote.Ref.{Bor}
 use Rattle.pad_words.specs.declared.numbers.Session.{Session}
 use Rattle.pad_words.specs.declared.numbers.Digit.{Digit}
+use Rattle.pad_words.specs.Bytes.{packed}
+use Rattle.pad_words.specs.Names.{is_key_name}
 use Rattle.pad_words.specs.Numbers.{session_of, digit_of}
+use Rattle.pad_words.specs.declared.bytes.Block.{Block}
 use Rattle.key_source.specs.declared.Key.{Key}
 use Rattle.key_source.specs.declared.Key.TheVariants as keypad
 use Rattle.key_source.specs.declared.Mask.{Mask}
+use Rattle.pad_steps.specs.declared.commands.BlockRequest.{BlockRequest}
 use Rattle.pad_steps.specs.declared.commands.Command.{Command}
 use Rattle.pad_steps.specs.declared.commands.Command.TheVariants as command
 use Rattle.pad_steps.specs.declared.commands.EntryRules.{EntryRules}
+use Rattle.pad_steps.specs.declared.commands.Form.{Form}
+use Rattle.pad_steps.specs.declared.commands.Form.TheVariants as forms
+use Rattle.pad_steps.specs.declared.commands.ImportRequest.{ImportRequest}
+use Rattle.pad_steps.specs.declared.commands.ImportSource.{ImportSource}
+use Rattle.pad_steps.specs.declared.commands.ImportSource.TheVariants as origin
+use Rattle.pad_steps.specs.declared.commands.PinRequest.TheVariants as pin
+use Rattle.pad_steps.specs.declared.commands.Verify.{Verify}
+use Rattle.pad_steps.specs.declared.commands.Verify.TheVariants as verify
 use Rattle.pad_steps.specs.declared.steps.Classes.{Classes}
 use Rattle.pad_steps.specs.declared.steps.Step.TheVariants as step
 use Rattle.script_lang.specs.declared.kinds.Line.{Line}
 use Rattle.script_lang.specs.declared.kinds.Line.TheVariants as line
-use Rattle.script_lang.specs.Words.{hex_value, is_no_space}
+use Rattle.script_lang.specs.declared.kinds.LineFault.{LineFault}
+use Rattle.script_lang.specs.declared.kinds.LineFault.TheVariants as fault
+use Rattle.script_lang.specs.Words.{hex_value, hex_values, is_no_space}
 use Rattle.script_lang.specs.Spelling.{is_built}
 
 infixl 10 ◌>>=◌
@@ -92,6 +106,42 @@ read_session word = read_number 1 16 word >>= session_of
 unfoldable pub read_mask : List ℕ → Option Mask
 read_mask word = if length word == 16 then (hex_number (take 8 word) >>= λ k. hex_number (drop 8 word) >>= λ f. Some (record { keys = k; fdks = f })) else None
 
+-- four hexadecimal digits
+unfoldable pub read_uses : List ℕ → Option ℕ
+read_uses word = if length word == 4 then hex_number word else None
+
+-- one hexadecimal digit
+unfoldable pub read_nibble : List ℕ → Option ℕ
+read_nibble word = if length word == 1 then hex_value (slice_index word 0) else None
+
+-- from low to high hexadecimal digits
+unfoldable pub read_nibbles : ℕ → ℕ → List ℕ → Option (List ℕ)
+read_nibbles low high word = if nat_le low (length word) && nat_le (length word) high then hex_values word else None
+
+-- at most so many hexadecimal digits, or `-` for none
+unfoldable pub read_nibbles_or_dash : ℕ → List ℕ → Option (List ℕ)
+read_nibbles_or_dash high word = if bytes_eq word (codes "-") then Some [] else read_nibbles 1 high word
+
+-- bytes of two hexadecimal digits each
+unfoldable pub hex_bytes : List ℕ → Option (List ℕ)
+hex_bytes word = option_map packed (hex_values word)
+
+-- from low to high bytes
+unfoldable pub read_bytes : ℕ → ℕ → List ℕ → Option (List ℕ)
+read_bytes low high word = if (length word % 2 == 0) && nat_le low (length word / 2) && nat_le (length word / 2) high then hex_bytes word else None
+
+-- eight bytes
+unfoldable pub read_block : List ℕ → Option Block
+read_block word = if length word == 16 then option_map (λ (bytes : List ℕ). record { 0 = bytes }) (hex_bytes word) else None
+
+-- a key's name
+unfoldable pub read_name : List ℕ → Option (List ℕ)
+read_name word = if is_key_name word then Some word else None
+
+-- what this reader reads, or `-` for none
+abbrev pub read_optional : {A : Type 0} → (List ℕ → Option A) → List ℕ → Option (Option A)
+read_optional read word = if bytes_eq word (codes "-") then Some None else option_map (λ x. Some x) (read word)
+
 unfoldable pub read_end : List ℕ → Option Bool
 read_end word = if bytes_eq word (codes "auto") then Some true else if bytes_eq word (codes "hold") then Some false else None
 
@@ -100,6 +150,23 @@ read_classes word = if bytes_eq word (codes "none") then Some (record { service 
     else if bytes_eq word (codes "service") then Some (record { service = true; execute = false })
     else if bytes_eq word (codes "execute") then Some (record { service = false; execute = true })
     else if bytes_eq word (codes "both") then Some (record { service = true; execute = true })
+    else None
+
+unfoldable pub read_verify : List ℕ → Option Verify
+read_verify word = if bytes_eq word (codes "none") then Some verify.Nothing
+    else if bytes_eq word (codes "self") then Some verify.Own
+    else if bytes_eq word (codes "zero") then Some verify.Zero
+    else None
+
+unfoldable pub read_form : List ℕ → Option Form
+read_form word = if bytes_eq word (codes "iso0") then Some forms.Iso0
+    else if bytes_eq word (codes "iso1") then Some forms.Iso1
+    else if bytes_eq word (codes "iso2") then Some forms.Iso2
+    else if bytes_eq word (codes "iso3") then Some forms.Iso3
+    else if bytes_eq word (codes "iso4") then Some forms.Iso4
+    else if bytes_eq word (codes "ibm3624") then Some forms.Ibm3624
+    else if bytes_eq word (codes "diebold") then Some forms.Diebold
+    else if bytes_eq word (codes "dieboldco") then Some forms.DieboldCo
     else None
 
 -- the key of one byte: a digit, or A to F
@@ -124,10 +191,28 @@ unfoldable pub read_rules : List ℕ → Option EntryRules
 read_rules = with_field (read_number 0 255) (λ min. with_field (read_number 0 255) (λ max. with_field read_end (λ e. with_field read_mask (λ a. with_field read_mask (λ t.
     ended (record { min = min; max = max; auto_end = e; active = a; terminate = t }))))))
 
+unfoldable pub read_pinblock : List ℕ → Option BlockRequest
+read_pinblock = with_field read_form (λ form. with_field read_name (λ key. with_field (read_optional read_name) (λ second. with_field (read_optional read_block) (λ xor. with_field (read_nibbles_or_dash 24) (λ customer. with_field read_nibble (λ pad.
+    ended (record { form = form; key = key; second = second; xor = xor; customer = customer; pad = pad })))))))
+
+-- the uses and the check mode behind a source
+unfoldable pub read_sourced : List ℕ → ImportSource → List ℕ → Option ImportRequest
+read_sourced name source = with_field read_uses (λ uses. with_field read_verify (λ v. ended (record { name = name; source = source; uses = uses; verify = v })))
+
+-- an import of this name by the first word of its source
+abbrev pub source_rows : List ℕ → List (List ℕ × (List ℕ → Option ImportRequest))
+source_rows name =
+    (codes "clear", with_field (read_bytes 1 64) (λ value. read_sourced name (origin.Clear value))) ∷ []
+
+unfoldable pub read_import : List ℕ → Option ImportRequest
+read_import = with_field read_name (λ name. one_of (source_rows name))
+
 -- a command by its first word
 abbrev pub command_rows : List (List ℕ × (List ℕ → Option Command))
 command_rows =
-    (codes "getpin", λ bytes. option_map (λ (rules : EntryRules). command.GetPin rules) (read_rules bytes)) ∷ []
+    (codes "getpin", λ bytes. option_map (λ (rules : EntryRules). command.GetPin rules) (read_rules bytes)) ∷
+    (codes "pinblock", λ bytes. option_map (λ (request : BlockRequest). command.Pin (pin.Block request)) (read_pinblock bytes)) ∷
+    (codes "import", λ bytes. option_map (λ (request : ImportRequest). command.ImportKey request) (read_import bytes)) ∷ []
 
 unfoldable pub read_command : List ℕ → Option Command
 read_command = one_of command_rows
@@ -154,7 +239,12 @@ abbrev pub IsNextWord : Option (Bor (List ℕ) × Bor (List ℕ)) → Option (Li
 IsNextWord None read = read ≡ None
 IsNextWord (Some x) read = read ≡ Some (x.0.now, x.1.now)
 
--- a value that was read is the reading, and a refusal is that there is none
-abbrev pub Gives : {X E : Type 0} → Result X E → Option X → Type 0
+-- Outside is that there is no reading; want of memory says nothing
+abbrev pub Refuses : {X : Type 0} → LineFault → Option X → Type 0
+Refuses fault.Outside read = read ≡ None
+Refuses fault.NoMemory read = Unit {0}
+
+-- a value that was read is the reading, and a refusal is as its fault says
+abbrev pub Gives : {X : Type 0} → Result X LineFault → Option X → Type 0
 Gives (Ok x) read = read ≡ Some x
-Gives (Err e) read = read ≡ None
+Gives (Err e) read = Refuses e read

@@ -5,10 +5,20 @@ use Rattle.pad_words.specs.declared.numbers.Session.{Session}
 use Rattle.key_source.specs.declared.Key.{Key}
 use Rattle.key_source.specs.declared.Key.TheVariants as keypad
 use Rattle.key_source.specs.declared.Mask.{Mask}
+use Rattle.pad_words.specs.Bytes.{unpacked}
+use Rattle.pad_words.specs.declared.bytes.Block.{Block}
+use Rattle.pad_steps.specs.declared.commands.BlockRequest.{BlockRequest}
 use Rattle.pad_steps.specs.declared.commands.Command.{Command}
 use Rattle.pad_steps.specs.declared.commands.Command.TheVariants as command
 use Rattle.pad_steps.specs.declared.commands.EntryRules.{EntryRules}
+use Rattle.pad_steps.specs.declared.commands.Form.{Form}
+use Rattle.pad_steps.specs.declared.commands.Form.TheVariants as forms
+use Rattle.pad_steps.specs.declared.commands.ImportRequest.{ImportRequest}
+use Rattle.pad_steps.specs.declared.commands.ImportSource.{ImportSource}
+use Rattle.pad_steps.specs.declared.commands.ImportSource.TheVariants as origin
 use Rattle.pad_steps.specs.declared.commands.PartRules.{PartRules}
+use Rattle.pad_steps.specs.declared.commands.PinRequest.{PinRequest}
+use Rattle.pad_steps.specs.declared.commands.PinRequest.TheVariants as pin
 use Rattle.pad_steps.specs.declared.commands.Verify.{Verify}
 use Rattle.pad_steps.specs.declared.commands.Verify.TheVariants as verify
 use Rattle.pad_steps.specs.declared.steps.Classes.{Classes}
@@ -76,6 +86,52 @@ verify_text verify.Nothing = codes "none"
 verify_text verify.Own = codes "self"
 verify_text verify.Zero = codes "zero"
 
+abbrev pub verify_word : Verify → Word
+verify_word v = Exact (verify_text v)
+
+-- the word of a form of PIN block
+unfoldable pub form_text : Form → List ℕ
+form_text forms.Iso0 = codes "iso0"
+form_text forms.Iso1 = codes "iso1"
+form_text forms.Iso2 = codes "iso2"
+form_text forms.Iso3 = codes "iso3"
+form_text forms.Iso4 = codes "iso4"
+form_text forms.Ibm3624 = codes "ibm3624"
+form_text forms.Diebold = codes "diebold"
+form_text forms.DieboldCo = codes "dieboldco"
+
+abbrev pub form_word : Form → Word
+form_word f = Exact (form_text f)
+
+-- a key's name, as it stands
+abbrev pub name_word : List ℕ → Word
+name_word name = Exact name
+
+-- the word of a value, or `-` where there is none
+abbrev pub optional_word : {A : Type 0} → (A → Word) → Option A → Word
+optional_word word None = Exact (codes "-")
+optional_word word (Some x) = word x
+
+-- two hexadecimal digits for each byte
+abbrev pub bytes_word : List ℕ → Word
+bytes_word bytes = Digits (unpacked bytes)
+
+abbrev pub block_word : Block → Word
+block_word block = bytes_word block.0
+
+-- one hexadecimal digit
+abbrev pub nibble_word : ℕ → Word
+nibble_word value = Digits (value ∷ [])
+
+-- a hexadecimal digit for each half byte, or `-` where there is none
+abbrev pub nibbles_word : List ℕ → Word
+nibbles_word [] = Exact (codes "-")
+nibbles_word (value ∷ values) = Digits (value ∷ values)
+
+-- four hexadecimal digits
+abbrev pub uses_word : ℕ → Word
+uses_word uses = Digits (four_values uses)
+
 -- ---- commands
 
 -- least and greatest length, the end, the active and the terminating keys
@@ -84,27 +140,51 @@ rules_words r = number_word r.min ∷ number_word r.max ∷ end_word r.auto_end 
 
 -- count of digits, the end, the active and the terminating keys, the check mode
 abbrev pub part_words : PartRules → List Word
-part_words r = number_word r.count ∷ end_word r.auto_end ∷ mask_word r.active ∷ mask_word r.terminate ∷ Exact (verify_text r.verify) ∷ []
+part_words r = number_word r.count ∷ end_word r.auto_end ∷ mask_word r.active ∷ mask_word r.terminate ∷ verify_word r.verify ∷ []
+
+-- the form, the key, the second key, what is XORed, the customer data, the padding digit
+abbrev pub block_words : BlockRequest → List Word
+block_words r = form_word r.form ∷ name_word r.key ∷ optional_word name_word r.second ∷ optional_word block_word r.xor ∷ nibbles_word r.customer ∷ nibble_word r.pad ∷ []
+
+-- where a key's value comes from
+abbrev pub source_words : ImportSource → List Word
+source_words (origin.Clear value) = Exact (codes "clear") ∷ bytes_word value ∷ []
+source_words (origin.Sealed name value) = Exact (codes "sealed") ∷ name_word name ∷ bytes_word value ∷ []
+source_words origin.Part = Exact (codes "part") ∷ []
+
+-- the source, the uses, the check mode
+abbrev pub sourced_words : ImportRequest → List Word
+sourced_words r = source_words r.source ++ uses_word r.uses ∷ verify_word r.verify ∷ []
+
+-- the name, and what is behind it
+abbrev pub import_words : ImportRequest → List Word
+import_words r = name_word r.name ∷ sourced_words r
+
+abbrev pub pin_words : PinRequest → List Word
+pin_words (pin.Block request) = Exact (codes "pinblock") ∷ block_words request
+-- no line spells these yet
+pin_words (pin.Check request) = []
+pin_words (pin.Extra request) = []
 
 abbrev pub command_words : Command → List Word
 command_words (command.GetPin rules) = Exact (codes "getpin") ∷ rules_words rules
 command_words (command.GetData rules) = Exact (codes "getdata") ∷ rules_words rules
 command_words (command.SecureKeyEntry rules) = Exact (codes "keyentry") ∷ part_words rules
 command_words (command.MaintainPin on) = Exact (codes "maintain") ∷ Exact (if on then codes "on" else codes "off") ∷ []
-command_words (command.DeleteKey name) = Exact (codes "delete") ∷ Exact name ∷ []
+command_words (command.Pin request) = pin_words request
+command_words (command.ImportKey request) = Exact (codes "import") ∷ import_words request
+command_words (command.DeleteKey name) = Exact (codes "delete") ∷ name_word name ∷ []
 command_words command.Init = Exact (codes "init") ∷ []
 command_words command.Reset = Exact (codes "reset") ∷ []
 command_words command.RsaImport = Exact (codes "rsa") ∷ []
--- no line spells these yet
-command_words (command.Pin request) = []
+-- no line spells this yet
 command_words (command.Crypt request) = []
-command_words (command.ImportKey request) = []
 
 -- ---- steps
 
 abbrev pub question_words : Question → List Word
 question_words question.Status = Exact (codes "status") ∷ []
-question_words (question.Key name) = Exact (codes "key") ∷ Exact name ∷ []
+question_words (question.Key name) = Exact (codes "key") ∷ name_word name ∷ []
 question_words question.Names = Exact (codes "names") ∷ []
 question_words (question.Reply id) = Exact (codes "reply") ∷ number_word id ∷ []
 

@@ -1,11 +1,9 @@
-//! The values of words.
-ghost use Rattle.std.specs.Prelude.{◌≡◌, ◌≤◌, ◌<◌, ◌^◌, length, IfSome};
-ghost use Rattle.script_lang.specs.Words.{hex_value};
-ghost use Rattle.script_lang.specs.Reading.{decimal_value, decimal_number, has_plain_front, hex_number, read_number, read_session, read_mask, read_end, read_classes, read_figure, read_key};
+//! Decimal numbers, sessions and keys by their words.
+ghost use Rattle.std.specs.Prelude.{◌≡◌, ◌≤◌, ◌<◌, length, IfSome};
+ghost use Rattle.script_lang.specs.Reading.{decimal_value, decimal_number, has_plain_front, read_number, read_session, read_figure, read_key};
 
 use crate::cutting::is;
-use key_source::{Key, Mask};
-use pad_steps::Classes;
+use key_source::Key;
 use pad_words::{Digit, Session};
 
 // the value of a decimal digit
@@ -69,79 +67,6 @@ pub fn read_session(word: &[u8]) -> Option<Session>
 {
     let n = read_number(1, 16, word)?;
     Session::new(n as u8)
-}
-
-// the value of a hexadecimal digit in upper case
-fn hex_value(c: u8) -> Option<u8>
-    ensures value { result ≡ hex_value c }
-    ensures small { IfSome result (λ v. v < 16) }
-{
-    match c {
-        b'0'..=b'9' => Some(c - b'0'),
-        b'A'..=b'F' => Some(c - b'A' + 10),
-        _ => None,
-    }
-}
-
-// the number of at most eight hexadecimal digits
-fn hex_number(word: &[u8]) -> Option<u32>
-    requires { length word.now ≤ 8 }
-    ensures value { result ≡ hex_number word.now }
-    ensures small { IfSome result (λ n. n < 16 ^ length word.now) }
-{
-    let mut n = 0u64;
-    for &c in word {
-        let digit = hex_value(c)?;
-        n = 16 * n + u64::from(digit);
-    }
-    Some(n as u32)
-}
-
-// sixteen hexadecimal digits: the key bits, and then the bits of the function keys
-#[tactic(auto, unfolding(crate::specs::Reading::read_mask))]
-pub fn read_mask(word: &[u8]) -> Option<Mask>
-    ensures { result ≡ read_mask word.now }
-{
-    if word.len() == 16 {
-        let keys = hex_number(&word[..8])?;
-        let fdks = hex_number(&word[8..])?;
-        Some(Mask { keys, fdks })
-    } else {
-        None
-    }
-}
-
-// whether an entry ends by itself at its greatest length
-#[tactic(auto, unfolding(crate::specs::Reading::read_end))]
-pub fn read_end(word: &[u8]) -> Option<bool>
-    ensures { result ≡ read_end word.now }
-{
-    if is(word, "auto") {
-        Some(true)
-    } else if is(word, "hold") {
-        Some(false)
-    } else {
-        None
-    }
-}
-
-// the classes of events that a session hears
-#[tactic(auto, unfolding(crate::specs::Reading::read_classes))]
-pub fn read_classes(word: &[u8]) -> Option<Classes>
-    ensures { result ≡ read_classes word.now }
-{
-    let (service, execute) = if is(word, "none") {
-        (false, false)
-    } else if is(word, "service") {
-        (true, false)
-    } else if is(word, "execute") {
-        (false, true)
-    } else if is(word, "both") {
-        (true, true)
-    } else {
-        return None;
-    };
-    Some(Classes { service, execute })
 }
 
 // the key of one byte: a digit, or A to F

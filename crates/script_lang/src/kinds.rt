@@ -10,6 +10,11 @@ pub enum Line {
     Do(Step),
 }
 
-/// The bytes are no line of the script's grammar.
+/// Why a line is not read.
 #[derive(Clone, Copy, Debug, PartialEq, Eq)]
-pub struct Outside;
+pub enum LineFault {
+    /// The bytes are no line of the script's grammar.
+    Outside,
+    /// Memory was wanting.
+    NoMemory,
+}

@@ -1,15 +1,21 @@
 //! The lines of a script: what a line says, and how a step is printed.
 #![tactic(auto)]
 
+mod commands;
 mod composing;
 mod cutting;
+mod digit_fields;
 mod fields;
 pub mod kinds;
 mod laws;
+mod name_fields;
+mod put_commands;
+mod put_fields;
 mod reading;
+mod word_fields;
 pub mod writing;
 
-pub use kinds::{Line, Outside};
+pub use kinds::{Line, LineFault};
 pub use laws::spelled_again;
 pub use reading::read_line;
 pub use writing::write_step;

@@ -1,10 +1,25 @@
-use crate::{Line, read_line, spelled_again, write_step, writing};
+use crate::{Line, LineFault, read_line, spelled_again, write_step, writing};
 use key_source::Key;
-use pad_steps::{Classes, Step};
+use pad_steps::{
+    BlockRequest, Classes, Command, Form, ImportRequest, ImportSource, PinRequest, Step, Verify,
+};
 use pad_words::{Digit, Octets};
+use std::alloc::Global;
 use std::test::Fail;
 
 const GETPIN: &str = "submit 1 0 getpin 4 16 hold 000F03FF00000000 0003000000000000";
+
+const IMPORT: &str = "submit 1 0 import PIN_KEY_1 clear 0123456789ABCDEF 0002 none";
+
+const PINBLOCK: &str = "submit 1 0 pinblock iso0 PIN_KEY_1 - - 123456789012 F";
+
+// whether the line is outside the grammar
+fn is_outside(alloc: Global, line: &[u8]) -> bool {
+    match read_line(alloc, line) {
+        Err(LineFault::Outside) => true,
+        Ok(_) | Err(LineFault::NoMemory) => false,
+    }
+}
 
 // each kind of line says its step, and the step is printed as the line again
 #[test]
@@ -15,6 +30,11 @@ fn lines_are_read_and_printed_again(rt: HostRuntime) -> Result<(), Fail> {
         "open 1",
         "listen 1 execute",
         GETPIN,
+        IMPORT,
+        "submit 1 0 import A clear FEDCBA9876543210 0002 none",
+        "submit 1 0 import ABCDEFGHIJKLMNOPQRSTUVWXYZ_01234 clear 0000000000000000 0002 none",
+        PINBLOCK,
+        "submit 1 0 pinblock iso0 ABCDEFGHIJKLMNOPQRSTUVWXYZ_56789 - - 1234567890123456789 0",
         "press 0",
         "press 7",
         "press 9",
@@ -25,7 +45,7 @@ fn lines_are_read_and_printed_again(rt: HostRuntime) -> Result<(), Fail> {
     ];
     for line in lines {
         let mut text = Octets::copy(alloc, "> ".as_bytes())?;
-        match read_line(line.as_bytes()) {
+        match read_line(alloc, line.as_bytes()) {
             Ok(Line::Do(step)) => write_step(alloc, &step, false, &mut text)?,
             _ => assert!(rt; false, "{line} is no step"),
         }
@@ -33,7 +53,7 @@ fn lines_are_read_and_printed_again(rt: HostRuntime) -> Result<(), Fail> {
         assert!(rt; mark == "> ".as_bytes(), "{line} lost what stood before");
         assert!(rt; rest == line.as_bytes(), "{line} is printed otherwise");
     }
-    let auto = match read_line("auto".as_bytes()) {
+    let auto = match read_line(alloc, "auto".as_bytes()) {
         Ok(Line::Auto) => true,
         _ => false,
     };
@@ -41,9 +61,68 @@ fn lines_are_read_and_printed_again(rt: HostRuntime) -> Result<(), Fail> {
     Ok(())
 }
 
-// every line that differs from the nine kinds is outside the grammar
+// the command that a line submits
+fn command_of(line: &Line) -> Option<&Command> {
+    match line {
+        Line::Do(Step::Submit(_, _, command)) => Some(command),
+        _ => None,
+    }
+}
+
+// the request of an import
+fn import_of(command: &Command) -> Option<&ImportRequest> {
+    match command {
+        Command::ImportKey(request) => Some(request),
+        _ => None,
+    }
+}
+
+// the value in clear of a source
+fn clear_value(source: &ImportSource) -> Option<&Octets> {
+    match source {
+        ImportSource::Clear(value) => Some(value),
+        _ => None,
+    }
+}
+
+// the request of a PIN block
+fn block_of(command: &Command) -> Option<&BlockRequest> {
+    match command {
+        Command::Pin(PinRequest::Block(request)) => Some(request),
+        _ => None,
+    }
+}
+
+// a command has the values of its fields
+#[test]
+fn commands_have_their_fields(rt: HostRuntime) -> Result<(), Fail> {
+    let alloc = rt.alloc();
+    let line = read_line(alloc, IMPORT.as_bytes()).ok().ok_or("import")?;
+    let command = command_of(&line).ok_or("import")?;
+    let import = import_of(command).ok_or("import")?;
+    let value = clear_value(&import.source).ok_or("value")?;
+    let bytes = [0x01, 0x23, 0x45, 0x67, 0x89, 0xAB, 0xCD, 0xEF];
+    assert!(rt; import.name.text() == "PIN_KEY_1".as_bytes());
+    assert!(rt; value.items() == bytes.as_slice());
+    assert!(rt; import.uses == 2);
+    assert!(rt; import.verify == Verify::Nothing);
+    let line = read_line(alloc, PINBLOCK.as_bytes()).ok().ok_or("block")?;
+    let command = command_of(&line).ok_or("block")?;
+    let block = block_of(command).ok_or("block")?;
+    let digits = [1, 2, 3, 4, 5, 6, 7, 8, 9, 0, 1, 2];
+    assert!(rt; block.form == Form::Iso0);
+    assert!(rt; block.key.text() == "PIN_KEY_1".as_bytes());
+    assert!(rt; block.second.is_none());
+    assert!(rt; block.xor.is_none());
+    assert!(rt; block.customer.items() == digits.as_slice());
+    assert!(rt; block.pad == 15);
+    Ok(())
+}
+
+// every line that differs from the kinds that are built is outside the grammar
 #[test]
 fn other_lines_are_outside(rt: HostRuntime) -> Result<(), Fail> {
+    let alloc = rt.alloc();
     let lines = [
         "",
         " ",
@@ -113,13 +192,112 @@ fn other_lines_are_outside(rt: HostRuntime) -> Result<(), Fail> {
         "boot",
     ];
     for line in lines {
-        assert!(rt; read_line(line.as_bytes()).is_err(), "{line} is read");
+        assert!(rt; is_outside(alloc, line.as_bytes()), "{line} is read");
     }
-    assert!(rt; read_line(&[b'o', b'p', b'e', b'n', b' ', 0xB1]).is_err());
-    assert!(rt; read_line(&[0xEF, 0xBB, 0xBF, b'a', b'u', b't', b'o']).is_err());
-    assert!(rt; read_line(&[0, b'a', b'u', b't', b'o']).is_err());
-    assert!(rt; read_line(&[b'1'; 5000]).is_err());
-    assert!(rt; read_line(&[b' '; 5000]).is_err());
+    assert!(rt; is_outside(alloc, &[b'o', b'p', b'e', b'n', b' ', 0xB1]));
+    assert!(rt; is_outside(alloc, &[0xEF, 0xBB, 0xBF, b'a', b'u', b't', b'o']));
+    assert!(rt; is_outside(alloc, &[0, b'a', b'u', b't', b'o']));
+    assert!(rt; is_outside(alloc, &[b'1'; 5000]));
+    assert!(rt; is_outside(alloc, &[b' '; 5000]));
+    Ok(())
+}
+
+// an import that differs in one field is outside the grammar
+#[test]
+fn other_imports_are_outside(rt: HostRuntime) -> Result<(), Fail> {
+    let alloc = rt.alloc();
+    let lines = [
+        "submit 1 0 import",
+        "submit 1 0 import ",
+        "submit 1 0 import P",
+        "submit 1 0 import P clear",
+        "submit 1 0 import P clear 0123456789ABCDEF",
+        "submit 1 0 import P clear 0123456789ABCDEF 0002",
+        "submit 1 0 import P clear 0123456789ABCDEF 0002 ",
+        "submit 1 0 import  clear 0123456789ABCDEF 0002 none",
+        "submit 1 0 import ABCDEFGHIJKLMNOPQRSTUVWXYZ_012345 clear 0123456789ABCDEF 0002 none",
+        "submit 1 0 import p clear 0123456789ABCDEF 0002 none",
+        "submit 1 0 import P-1 clear 0123456789ABCDEF 0002 none",
+        "submit 1 0 import P Clear 0123456789ABCDEF 0002 none",
+        "submit 1 0 import P sealed K 0123456789ABCDEF 0002 none",
+        "submit 1 0 import P part 0002 none",
+        "submit 1 0 import P clear - 0002 none",
+        "submit 1 0 import P clear 01 0002 none",
+        "submit 1 0 import P clear 0123456789ABCDE 0002 none",
+        "submit 1 0 import P clear 0123456789ABCDEF0 0002 none",
+        "submit 1 0 import P clear 0123456789ABCDEF01 0002 none",
+        "submit 1 0 import P clear 0123456789ABCDEF0123456789ABCDEF 0002 none",
+        "submit 1 0 import P clear 0123456789abcdef 0002 none",
+        "submit 1 0 import P clear 0123456789ABCDEG 0002 none",
+        "submit 1 0 import P clear 0123456789ABCDEF 0001 none",
+        "submit 1 0 import P clear 0123456789ABCDEF 0003 none",
+        "submit 1 0 import P clear 0123456789ABCDEF 002 none",
+        "submit 1 0 import P clear 0123456789ABCDEF 00002 none",
+        "submit 1 0 import P clear 0123456789ABCDEF 2 none",
+        "submit 1 0 import P clear 0123456789ABCDEF 0002 self",
+        "submit 1 0 import P clear 0123456789ABCDEF 0002 zero",
+        "submit 1 0 import P clear 0123456789ABCDEF 0002 None",
+        "submit 1 0 import P clear 0123456789ABCDEF 0002 none none",
+        "submit 1 0 import P clear 0123456789ABCDEF 0002  none",
+        "submit 1 0 import P clear  0123456789ABCDEF 0002 none",
+        "submit 1 0 import P clear 0123456789ABCDEF 0002 none ",
+        "submit 1 1 import P clear 0123456789ABCDEF 0002 none",
+        "submit 2 0 import P clear 0123456789ABCDEF 0002 none",
+        "submit 1 0 Import P clear 0123456789ABCDEF 0002 none",
+    ];
+    for line in lines {
+        assert!(rt; is_outside(alloc, line.as_bytes()), "{line} is read");
+    }
+    Ok(())
+}
+
+// a PIN block that differs in one field is outside the grammar
+#[test]
+fn other_blocks_are_outside(rt: HostRuntime) -> Result<(), Fail> {
+    let alloc = rt.alloc();
+    let lines = [
+        "submit 1 0 pinblock",
+        "submit 1 0 pinblock iso0 P - - 123456789012",
+        "submit 1 0 pinblock iso0 P - - 123456789012 ",
+        "submit 1 0 pinblock iso1 P - - 123456789012 0",
+        "submit 1 0 pinblock iso2 P - - 123456789012 0",
+        "submit 1 0 pinblock iso3 P - - 123456789012 0",
+        "submit 1 0 pinblock iso4 P - - 123456789012 0",
+        "submit 1 0 pinblock ibm3624 P - - 123456789012 0",
+        "submit 1 0 pinblock diebold P - - 123456789012 0",
+        "submit 1 0 pinblock dieboldco P - - 123456789012 0",
+        "submit 1 0 pinblock iso5 P - - 123456789012 0",
+        "submit 1 0 pinblock ISO0 P - - 123456789012 0",
+        "submit 1 0 pinblock iso0 p - - 123456789012 0",
+        "submit 1 0 pinblock iso0 - - - 123456789012 0",
+        "submit 1 0 pinblock iso0  - - 123456789012 0",
+        "submit 1 0 pinblock iso0 ABCDEFGHIJKLMNOPQRSTUVWXYZ_012345 - - 123456789012 0",
+        "submit 1 0 pinblock iso0 P K - 123456789012 0",
+        "submit 1 0 pinblock iso0 P -- - 123456789012 0",
+        "submit 1 0 pinblock iso0 P - 0000000000000000 123456789012 0",
+        "submit 1 0 pinblock iso0 P - 0 123456789012 0",
+        "submit 1 0 pinblock iso0 P - - - 0",
+        "submit 1 0 pinblock iso0 P - - 12345678901 0",
+        "submit 1 0 pinblock iso0 P - - 12345678901234567890 0",
+        "submit 1 0 pinblock iso0 P - - 123456789012345678901234 0",
+        "submit 1 0 pinblock iso0 P - - 1234567890123456789012345 0",
+        "submit 1 0 pinblock iso0 P - - 12345678901A 0",
+        "submit 1 0 pinblock iso0 P - - 12345678901a 0",
+        "submit 1 0 pinblock iso0 P - - 12345678901- 0",
+        "submit 1 0 pinblock iso0 P - - 123456789012 00",
+        "submit 1 0 pinblock iso0 P - - 123456789012 10",
+        "submit 1 0 pinblock iso0 P - - 123456789012 f",
+        "submit 1 0 pinblock iso0 P - - 123456789012 G",
+        "submit 1 0 pinblock iso0 P - - 123456789012 -",
+        "submit 1 0 pinblock iso0 P - - 123456789012  0",
+        "submit 1 0 pinblock iso0 P - - 123456789012 0 ",
+        "submit 1 0 pinblock iso0 P - - 123456789012 0 0",
+        "submit 1 1 pinblock iso0 P - - 123456789012 0",
+        "submit 2 0 pinblock iso0 P - - 123456789012 0",
+    ];
+    for line in lines {
+        assert!(rt; is_outside(alloc, line.as_bytes()), "{line} is read");
+    }
     Ok(())
 }
 
@@ -129,6 +307,8 @@ fn words_are_printed(rt: HostRuntime) -> Result<(), Fail> {
     let alloc = rt.alloc();
     let mut text = Octets::empty(alloc);
     write_step(alloc, &Step::Begin, false, &mut text)?;
+    writing::write_word("; ", &mut text)?;
+    write_step(alloc, &Step::Finish, false, &mut text)?;
     writing::write_word("; ", &mut text)?;
     let digit = Digit::new(7).ok_or("digit")?;
     write_step(alloc, &Step::Press(Key::Digit(digit)), true, &mut text)?;
@@ -154,7 +334,8 @@ fn words_are_printed(rt: HostRuntime) -> Result<(), Fail> {
     writing::write_number(alloc, 0, &mut text)?;
     writing::write_word(" ", &mut text)?;
     writing::write_number(alloc, 4_294_967_295, &mut text)?;
-    let want = "begin; press *; 7 A F help fdk1 fdk32 none service execute both 0 4294967295";
+    let want =
+        "begin; finish; press *; 7 A F help fdk1 fdk32 none service execute both 0 4294967295";
     assert!(rt; text.items() == want.as_bytes());
     Ok(())
 }

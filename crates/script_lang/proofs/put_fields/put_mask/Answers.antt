@@ -2,7 +2,7 @@ use Rattle.std.proofs.Common.{ℕ, List, ◌++◌, ◌∷◌, [], map, ◌/◌, 
 use Rattle.script_lang.specs.Words.{hex_digit}
 use Rattle.script_lang.specs.Spelling.{four_values}
 use Rattle.script_lang.proofs.WriteLemmas.{then_put}
-use Rattle.script_lang.proofs.composing.put_mask.Goals as goal
+use Rattle.script_lang.proofs.put_fields.put_mask.Goals as goal
 
 pub returns : goal.returns
 returns c =

@@ -1,7 +1,7 @@
 use Rattle.std.proofs.Common.{arith, ◌∙◌}
 use Rattle.script_lang.specs.Words.{hex_value}
 use Rattle.script_lang.proofs.LoopLemmas.{digits_onto-more, digits_onto-stop, digits_onto-end, pow_more, small_pow}
-use Rattle.script_lang.proofs.fields.hex_number.Goals as goal
+use Rattle.script_lang.proofs.digit_fields.hex_number.Goals as goal
 
 pub returns-in_err-digit-clause-value : goal.returns-in_err-digit-clause-value
 returns-in_err-digit-clause-value c = c.from_residual.ensures ∙ digits_onto-stop 16 hex_value c.args.word.now c.loop-c.n c.loop-c.c-index _ c.loop-c-test.true c.in_err-digit.ensures.value c.loop-c.invariant.same

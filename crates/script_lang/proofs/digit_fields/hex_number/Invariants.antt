@@ -1,7 +1,7 @@
 use Rattle.std.proofs.Common.{◌≡◌, ◌<◌, ◌^◌, drop}
 use Rattle.script_lang.specs.Reading.{hex_number, digits_onto}
 use Rattle.script_lang.specs.Words.{hex_value}
-use Rattle.script_lang.proofs.fields.hex_number.Given as goal
+use Rattle.script_lang.proofs.digit_fields.hex_number.Given as goal
 
 abbrev pub invariant-loop-c : goal.invariant-loop-c
 invariant-loop-c l = record {

@@ -1,0 +1,90 @@
+//! The words of a command, a space before each. After want of memory a part of the text may stand.
+ghost use Rattle.std.specs.Prelude.{◌≡◌, ◌++◌, ◌<◌, OnOk, IsTrue};
+ghost use Rattle.pad_steps.specs.Formed.{is_well_formed_command};
+ghost use Rattle.script_lang.specs.Words.{spaced};
+ghost use Rattle.script_lang.specs.Spelling.{rules_words, block_words, source_words, import_words, command_words};
+
+use crate::put_fields::{
+    put_bytes, put_end, put_form, put_mask, put_name, put_nibble, put_nibbles, put_number,
+    put_optional_block, put_optional_name, put_uses, put_verify,
+};
+use crate::writing::write_word;
+use pad_steps::{BlockRequest, Command, EntryRules, ImportRequest, ImportSource, PinRequest};
+use pad_words::{NoMemory, Octets};
+use std::alloc::Global;
+
+// the rules of an entry, a space before each word
+fn put_rules(alloc: Global, rules: &EntryRules, text: &mut Octets) -> Result<(), NoMemory>
+    ensures { OnOk result (text.new ≡ text.old ++ spaced (rules_words rules.now)) }
+{
+    put_number(alloc, u32::from(rules.min), text)?;
+    put_number(alloc, u32::from(rules.max), text)?;
+    put_end(rules.auto_end, text)?;
+    put_mask(&rules.active, text)?;
+    put_mask(&rules.terminate, text)
+}
+
+// what a PIN block is made of
+fn put_block(request: &BlockRequest, text: &mut Octets) -> Result<(), NoMemory>
+    requires { request.now.pad < 16 }
+    ensures { OnOk result (text.new ≡ text.old ++ spaced (block_words request.now)) }
+{
+    put_form(request.form, text)?;
+    put_name(&request.key, text)?;
+    put_optional_name(&request.second, text)?;
+    put_optional_block(&request.xor, text)?;
+    put_nibbles(&request.customer, text)?;
+    put_nibble(request.pad, text)
+}
+
+// where a key's value comes from
+fn put_source(source: &ImportSource, text: &mut Octets) -> Result<(), NoMemory>
+    ensures { OnOk result (text.new ≡ text.old ++ spaced (source_words source.now)) }
+{
+    match source {
+        ImportSource::Clear(value) => {
+            write_word(" clear", text)?;
+            put_bytes(value.items(), text)
+        }
+        ImportSource::Sealed(name, value) => {
+            write_word(" sealed", text)?;
+            put_name(name, text)?;
+            put_bytes(value.items(), text)
+        }
+        ImportSource::Part => write_word(" part", text),
+    }
+}
+
+// a key's name, where its value comes from, its uses and the check mode
+fn put_import(request: &ImportRequest, text: &mut Octets) -> Result<(), NoMemory>
+    ensures { OnOk result (text.new ≡ text.old ++ spaced (import_words request.now)) }
+{
+    put_name(&request.name, text)?;
+    put_source(&request.source, text)?;
+    put_uses(request.uses, text)?;
+    put_verify(request.verify, text)
+}
+
+// the command, a space before each word
+pub fn put_command(alloc: Global, command: &Command, text: &mut Octets) -> Result<(), NoMemory>
+    requires { IsTrue (is_well_formed_command command.now) }
+    ensures { OnOk result (text.new ≡ text.old ++ spaced (command_words command.now)) }
+{
+    match command {
+        Command::GetPin(rules) => {
+            write_word(" getpin", text)?;
+            put_rules(alloc, rules, text)?;
+            Ok(())
+        }
+        Command::Pin(PinRequest::Block(request)) => {
+            write_word(" pinblock", text)?;
+            put_block(request, text)
+        }
+        Command::ImportKey(request) => {
+            write_word(" import", text)?;
+            put_import(request, text)
+        }
+        // no line spells another command yet
+        _ => unreachable!(),
+    }
+}

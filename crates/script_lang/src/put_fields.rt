@@ -1,0 +1,177 @@
+//! The words of a step's line, a space before each. After want of memory a part of the text may stand.
+ghost use Rattle.std.specs.Prelude.{◌≡◌, ◌++◌, ◌∷◌, ◌<◌, All, map, OnOk};
+ghost use Rattle.std.specs.Fmt.{decimal};
+ghost use Rattle.pad_words.specs.Bytes.{unpacked};
+ghost use Rattle.script_lang.specs.Words.{hex_digit, word_text};
+ghost use Rattle.script_lang.specs.Spelling.{four_values, mask_word, end_text, verify_text, form_text, name_word, optional_word, bytes_word, block_word, nibble_word, nibbles_word, uses_word};
+
+use crate::writing::{hex_digit, write_number, write_word};
+use key_source::Mask;
+use pad_steps::{Form, Verify};
+use pad_words::{Block, KeyName, Nibbles, NoMemory, Octets, Session};
+use std::alloc::Global;
+
+// a space, and the number
+pub fn put_number(alloc: Global, n: u32, text: &mut Octets) -> Result<(), NoMemory>
+    ensures { OnOk result (text.new ≡ text.old ++ 32 ∷ decimal n) }
+{
+    text.push(b' ')?;
+    write_number(alloc, n, text)
+}
+
+// a space, and the session's number
+pub fn put_session(alloc: Global, session: &Session, text: &mut Octets) -> Result<(), NoMemory>
+    ensures { OnOk result (text.new ≡ text.old ++ 32 ∷ decimal session.now.number) }
+{
+    put_number(alloc, u32::from(session.get()), text)
+}
+
+// the four hexadecimal digits of a number of 16 bits
+fn put_four_digits(n: u32, text: &mut Octets) -> Result<(), NoMemory>
+    requires { n < 65536 }
+    ensures { OnOk result (text.new ≡ text.old ++ map hex_digit (four_values n)) }
+{
+    text.push(hex_digit((n / 4096) as u8))?;
+    text.push(hex_digit((n / 256 % 16) as u8))?;
+    text.push(hex_digit((n / 16 % 16) as u8))?;
+    text.push(hex_digit((n % 16) as u8))
+}
+
+// a space, and the mask
+pub fn put_mask(mask: &Mask, text: &mut Octets) -> Result<(), NoMemory>
+    ensures { OnOk result (text.new ≡ text.old ++ 32 ∷ word_text (mask_word mask.now)) }
+{
+    text.push(b' ')?;
+    put_four_digits(mask.keys / 65536, text)?;
+    put_four_digits(mask.keys % 65536, text)?;
+    put_four_digits(mask.fdks / 65536, text)?;
+    put_four_digits(mask.fdks % 65536, text)?;
+    Ok(())
+}
+
+// a space, and `auto` or `hold`
+#[tactic(auto, unfolding(crate::specs::Spelling::end_text))]
+pub fn put_end(auto_end: bool, text: &mut Octets) -> Result<(), NoMemory>
+    ensures { OnOk result (text.new ≡ text.old ++ 32 ∷ end_text auto_end) }
+{
+    write_word(if auto_end { " auto" } else { " hold" }, text)
+}
+
+// a space, and the check mode of an import
+#[tactic(auto, unfolding(crate::specs::Spelling::verify_text))]
+pub fn put_verify(verify: Verify, text: &mut Octets) -> Result<(), NoMemory>
+    ensures { OnOk result (text.new ≡ text.old ++ 32 ∷ verify_text verify) }
+{
+    let word = match verify {
+        Verify::Nothing => " none",
+        Verify::Own => " self",
+        Verify::Zero => " zero",
+    };
+    write_word(word, text)
+}
+
+// a space, and the form of a PIN block
+#[tactic(auto, unfolding(crate::specs::Spelling::form_text))]
+pub fn put_form(form: Form, text: &mut Octets) -> Result<(), NoMemory>
+    ensures { OnOk result (text.new ≡ text.old ++ 32 ∷ form_text form) }
+{
+    let word = match form {
+        Form::Iso0 => " iso0",
+        Form::Iso1 => " iso1",
+        Form::Iso2 => " iso2",
+        Form::Iso3 => " iso3",
+        Form::Iso4 => " iso4",
+        Form::Ibm3624 => " ibm3624",
+        Form::Diebold => " diebold",
+        Form::DieboldCo => " dieboldco",
+    };
+    write_word(word, text)
+}
+
+// a space, and the name
+pub fn put_name(name: &KeyName, text: &mut Octets) -> Result<(), NoMemory>
+    ensures { OnOk result (text.new ≡ text.old ++ 32 ∷ name.now) }
+{
+    text.push(b' ')?;
+    text.append(name.text())
+}
+
+// a space, and the name or `-`
+pub fn put_optional_name(name: &Option<KeyName>, text: &mut Octets) -> Result<(), NoMemory>
+    ensures { OnOk result (text.new ≡ text.old ++ 32 ∷ word_text (optional_word name_word name.now)) }
+{
+    match name {
+        Some(name) => put_name(name, text),
+        None => write_word(" -", text),
+    }
+}
+
+// two digits for each byte
+fn put_byte_digits(bytes: &[u8], text: &mut Octets) -> Result<(), NoMemory>
+    ensures { OnOk result (text.new ≡ text.old ++ map hex_digit (unpacked bytes.now)) }
+{
+    for byte in bytes {
+        text.push(hex_digit(*byte / 16))?;
+        text.push(hex_digit(*byte % 16))?;
+    }
+    Ok(())
+}
+
+// a space, and two digits for each byte
+pub fn put_bytes(bytes: &[u8], text: &mut Octets) -> Result<(), NoMemory>
+    ensures { OnOk result (text.new ≡ text.old ++ 32 ∷ word_text (bytes_word bytes.now)) }
+{
+    text.push(b' ')?;
+    put_byte_digits(bytes, text)
+}
+
+// a space, and the block or `-`
+pub fn put_optional_block(block: &Option<Block>, text: &mut Octets) -> Result<(), NoMemory>
+    ensures { OnOk result (text.new ≡ text.old ++ 32 ∷ word_text (optional_word block_word block.now)) }
+{
+    match block {
+        Some(block) => put_bytes(&block.0, text),
+        None => write_word(" -", text),
+    }
+}
+
+// a space, and one digit
+pub fn put_nibble(value: u8, text: &mut Octets) -> Result<(), NoMemory>
+    requires { value < 16 }
+    ensures { OnOk result (text.new ≡ text.old ++ 32 ∷ word_text (nibble_word value)) }
+{
+    text.push(b' ')?;
+    text.push(hex_digit(value))
+}
+
+// a digit for each value
+fn put_digits(values: &[u8], text: &mut Octets) -> Result<(), NoMemory>
+    requires { All (λ value. value < 16) values.now }
+    ensures { OnOk result (text.new ≡ text.old ++ map hex_digit values.now) }
+{
+    for value in values {
+        text.push(hex_digit(*value))?;
+    }
+    Ok(())
+}
+
+// a space, and a digit for each value, or `-` where there is none
+pub fn put_nibbles(values: &Nibbles, text: &mut Octets) -> Result<(), NoMemory>
+    ensures { OnOk result (text.new ≡ text.old ++ 32 ∷ word_text (nibbles_word values.now)) }
+{
+    match values.items() {
+        [] => write_word(" -", text),
+        digits => {
+            text.push(b' ')?;
+            put_digits(digits, text)
+        }
+    }
+}
+
+// a space, and the four digits of a key's uses
+pub fn put_uses(uses: u16, text: &mut Octets) -> Result<(), NoMemory>
+    ensures { OnOk result (text.new ≡ text.old ++ 32 ∷ word_text (uses_word uses)) }
+{
+    text.push(b' ')?;
+    put_four_digits(u32::from(uses), text)
+}
