@@ -1,4 +1,5 @@
 pub mod BookLemmas
+pub mod KeyLemmas
 pub mod PressLemmas
 pub mod QueueLemmas
 pub mod RowLemmas

@@ -1,49 +1,47 @@
 -- What a step leaves to do, and how many ids it draws.
-use Rattle.std.proofs.Common.{ap, arith, inl, inr, length-append, subst, ◌∙◌}
+use Rattle.std.proofs.Common.{ap, arith, inl, inr, length-append, ◌∙◌}
 use Rattle.std.specs.Prelude.{Bool, IsTrue, List, None, Option, Some, [], false, if◌then◌else◌, length, refl, true, ℕ, ◌+◌, ◌<◌, ◌∷◌, ◌≡◌, ◌≤◌, ◌⊎◌}
-use Rattle.flat_machine.specs.Decisions.{Goes}
+use Rattle.flat_machine.specs.Ciphers.{check_value}
+use Rattle.flat_machine.specs.Decisions.{Decided, Goes, Stops}
 use Rattle.flat_machine.specs.Entries.{Entry, entry_of, entry_refusal}
 use Rattle.flat_machine.specs.EntrySteps.{begin_as, begin_entry, begin_with, first_of}
+use Rattle.flat_machine.specs.FinishSteps.{crypt_now, delete_now, deletes, device_reply, finish_by, finish_pin, finish_with, import_now, imports, init_now, inits, maintain_now, maintains, pin_now}
+use Rattle.flat_machine.specs.KeyRows.{change_to}
+use Rattle.flat_machine.specs.Power.{replaces}
 use Rattle.flat_machine.specs.Kept.{Kept, KeptAfter, kept_next, kept_press_in, kept_seen}
 use Rattle.flat_machine.specs.Machine.{due_finish, due_in, next_work}
 use Rattle.flat_machine.specs.RequestSteps.{submit_by, submit_refusal}
-use Rattle.flat_machine.specs.Requests.{begun, eligible, may_begin, refused_at_begin, working}
+use Rattle.flat_machine.specs.Requests.{begun, eligible, finished, may_begin, refused_at_begin, working}
 use Rattle.flat_machine.specs.Sessions.{holder_of, is_open}
-use Rattle.flat_machine.specs.State.{Public, Running, Said, device_refusal, is_off, running, unchanged}
-use Rattle.flat_machine.specs.Works.{Setting}
+use Rattle.flat_machine.specs.State.{Public, Running, Said, decided, device_refusal, is_off, replies, running, unchanged}
+use Rattle.flat_machine.specs.Works.{Readied, Setting, pin_answer}
 use Rattle.flat_machine.specs.declared.types.Asked.{Asked}
 use Rattle.flat_machine.specs.declared.types.Row.{Row}
 use Rattle.flat_machine.specs.declared.types.Row.TheVariants.{Gone, InWork, Waiting}
 use Rattle.flat_machine.specs.declared.types.Seen.{Seen}
 use Rattle.flat_machine.specs.declared.types.Seen.TheVariants.{Ended, Ignored, Took}
-use Rattle.key_attributes.specs.declared.Use.TheVariants.{Crypt}
 use Rattle.key_source.specs.Keys.{has_key}
 use Rattle.key_source.specs.declared.Key.{Key}
 use Rattle.pad_machine.proofs.RowLemmas.{length-begun_as, length-finished}
 use Rattle.pad_machine.specs.Stands.{draws, work_left}
 use Rattle.pad_steps.specs.Formed.{is_well_formed}
+use Rattle.pad_steps.specs.declared.answers.Answer.TheVariants as answer
 use Rattle.pad_steps.specs.declared.answers.Answer.TheVariants.{Done}
 use Rattle.pad_steps.specs.declared.answers.Refusal.{Refusal}
 use Rattle.pad_steps.specs.declared.answers.Reply.{Reply}
 use Rattle.pad_steps.specs.declared.answers.Reply.TheVariants as reply
+use Rattle.pad_steps.specs.declared.answers.Refusal.TheVariants as refusal
 use Rattle.pad_steps.specs.declared.commands.Command.{Command}
+use Rattle.pad_steps.specs.declared.commands.Command.TheVariants as command
+use Rattle.pad_steps.specs.declared.commands.PinRequest.{PinRequest}
 use Rattle.pad_steps.specs.declared.steps.DiskWord.TheVariants.{Quiet}
 use Rattle.pad_steps.specs.declared.steps.Step.{Step}
 use Rattle.pad_steps.specs.declared.steps.Step.TheVariants as step
 use Rattle.pad_words.specs.declared.numbers.Session.{Session}
 
--- a setting, for what is the same in all
-pub some_setting : Setting
-some_setting = record {
-  cipher = record { tdea = λ key block. block; tdea_back = λ key block. block };
-  works = record {
-    admit = λ request. None;
-    wants = λ request. record { first = []; second = None; wanted = Crypt };
-    ready = λ request count first second. Goes 0;
-    result = λ request digits first second fill. Done;
-  };
-  fill_word = λ place. 0;
-}
+-- fill words, for what is the same with all
+pub no_fill : ℕ → ℕ
+no_fill place = 0
 
 -- a request that comes into work, or is refused as it does, leaves less to do
 less-if : (b : Bool) (waiting : Asked Command) (new : Row Command Reply) (rows others : List (Row Command Reply)) → work_left (new ∷ []) ≤ 1 → (b ≡ false → work_left others < work_left rows) → work_left (if b then new ∷ rows else Waiting waiting ∷ others) < 2 + work_left rows
@@ -102,16 +100,53 @@ work-in found None (Some asked) is = inr (begin-is found is)
     begin-is : (found : Step) → Some step.Begin ≡ Some found → found ≡ step.Begin
     begin-is found is = cc
 
-not-finish : IsTrue (is_well_formed step.Finish) → ⊥
-not-finish formed = cc
+-- the request in work ends with some reply
+abbrev EndsWork : Public → Said → Type 0
+EndsWork public said = (answer : Reply) × (said.public.requests ≡ finished answer public.requests)
 
-less-work : (kept : Kept) (s : Step) → (s ≡ step.Finish) ⊎ (s ≡ step.Begin) → IsTrue (is_well_formed s) → is_off kept.public.device ≡ false → next_work kept.public ≡ Some s → work_left (kept_next some_setting kept s Quiet).state.public.requests < work_left kept.public.requests
-less-work kept s (inl is) formed on due = absurd (not-finish (subst (λ (t : Step). IsTrue (is_well_formed t)) is formed))
-less-work kept s (inr is) formed on due = rw is (less-begin kept.public (is_off kept.public.device) on (due ∙ ap (λ (t : Step). Some t) is))
+ends-decided : {A : Type 0} (public : Public) (asked : Asked Command) (found : Decided A) (go_on : A → Said) → ((value : A) → EndsWork public (go_on value)) → EndsWork public (decided public asked found go_on)
+ends-decided public asked (Stops refusal accused) go_on ends = (reply.No refusal, refl)
+ends-decided public asked (Goes value) go_on ends = ends value
+
+ends-pin : (set : Setting) (public : Public) (held : List ℕ) (asked : Asked Command) (wanted : PinRequest) (found : Decided Readied) → EndsWork public (finish_pin set public held asked wanted found)
+ends-pin set public held asked wanted (Stops refusal accused) = (reply.No refusal, refl)
+ends-pin set public held asked wanted (Goes ready) = (reply.Ok (pin_answer set public.drawn wanted held ready), refl)
+
+-- Finish of a command that is no entry ends it
+ends-by : (set : Setting) (public : Public) (held : List ℕ) (asked : Asked Command) (c : Command) → due_finish (entry_of c) ≡ Some step.Finish → EndsWork public (finish_by set public held asked c Quiet)
+ends-by set public held asked (command.GetPin rules) due = cc
+ends-by set public held asked (command.GetData rules) due = cc
+ends-by set public held asked (command.SecureKeyEntry rules) due = cc
+ends-by set public held asked (command.MaintainPin on) due = ends-decided public asked (maintain_now public on) (maintains public asked) (λ flag. (reply.Ok Done, refl))
+ends-by set public held asked (command.Pin wanted) due = ends-pin set public held asked wanted (pin_now set.works public (length held) wanted)
+ends-by set public held asked (command.Crypt wanted) due = ends-decided public asked (crypt_now set.cipher public wanted) (λ found. replies public asked (reply.Ok found)) (λ found. (reply.Ok found, refl))
+ends-by set public held asked (command.ImportKey wanted) due = ends-decided public asked (import_now set.cipher public wanted) (λ new. replaces public asked (change_to new ∷ []) (imports set.cipher asked wanted new.1) Quiet)
+    (λ new. (reply.Ok (answer.Key (check_value set.cipher wanted.verify new.1.value)), refl))
+ends-by set public held asked (command.DeleteKey name) due = ends-decided public asked (delete_now public name) (λ change. replaces public asked (change ∷ []) (deletes asked) Quiet) (λ change. (reply.Ok Done, refl))
+ends-by set public held asked command.Init due = ends-decided public asked (init_now public) (λ todo. replaces public asked todo (inits asked) Quiet) (λ todo. (reply.Ok Done, refl))
+ends-by set public held asked command.Reset due = (device_reply public.device, refl)
+ends-by set public held asked command.RsaImport due = (reply.No refusal.UnsuppCommand, refl)
+
+work_left-finished : (answer : Reply) (rows : List (Row Command Reply)) (asked : Asked Command) → working rows ≡ Some asked → work_left (finished answer rows) < work_left rows
+work_left-finished answer [] asked is = cc
+work_left-finished answer (Waiting other ∷ rows) asked is = let fewer : work_left (finished answer rows) < work_left rows = work_left-finished answer rows asked is in omega arith
+work_left-finished answer (InWork other ∷ rows) asked is = omega arith
+work_left-finished answer (Gone id session old ∷ rows) asked is = work_left-finished answer rows asked is
+
+less-finish : (set : Setting) (public : Public) (held : List ℕ) (work waiting : Option (Asked Command)) → working public.requests ≡ work → due_in work waiting ≡ Some step.Finish → work_left (finish_with set public held work Quiet).public.requests < work_left public.requests
+less-finish set public held None None found due = cc
+less-finish set public held None (Some asked) found due = cc
+less-finish set public held (Some asked) waiting found due =
+    let ends = ends-by set public held asked asked.command due in
+    rw ends.1 (work_left-finished ends.0 public.requests asked found)
+
+less-work : (set : Setting) (kept : Kept) (s : Step) → (s ≡ step.Finish) ⊎ (s ≡ step.Begin) → is_off kept.public.device ≡ false → next_work kept.public ≡ Some s → work_left (kept_next set kept s Quiet).state.public.requests < work_left kept.public.requests
+less-work set kept s (inl is) on due = rw is (less-finish set kept.public kept.held (working kept.public.requests) (eligible (holder_of kept.public.line) kept.public.requests) refl (due ∙ ap (λ (t : Step). Some t) is))
+less-work set kept s (inr is) on due = rw is (less-begin kept.public (is_off kept.public.device) on (due ∙ ap (λ (t : Step). Some t) is))
 
 -- a step that was due leaves less to do, while the device is on
-pub less-next : (kept : Kept) (s : Step) → IsTrue (is_well_formed s) → is_off kept.public.device ≡ false → next_work kept.public ≡ Some s → work_left (kept_next some_setting kept s Quiet).state.public.requests < work_left kept.public.requests
-less-next kept s formed on due = less-work kept s (work-in s (working kept.public.requests) (eligible (holder_of kept.public.line) kept.public.requests) due) formed on due
+pub less-next : (set : Setting) (kept : Kept) (s : Step) → is_off kept.public.device ≡ false → next_work kept.public ≡ Some s → work_left (kept_next set kept s Quiet).state.public.requests < work_left kept.public.requests
+less-next set kept s on due = less-work set kept s (work-in s (working kept.public.requests) (eligible (holder_of kept.public.line) kept.public.requests) due) on due
 
 -- how many requests a step leaves
 count-if : (b : Bool) (x y : Said) (n : ℕ) → length x.public.requests ≡ n → length y.public.requests ≡ n → length (if b then x else y).public.requests ≡ n
@@ -135,35 +170,57 @@ count-with public (Some asked) waiting = refl
 count-with public None None = refl
 count-with public None (Some asked) = count-as public asked (entry_of asked.command)
 
-count-seen : (kept : Kept) (running : Running) (digits : List ℕ) (seen : Seen) → length (kept_seen some_setting kept running digits seen).state.public.requests ≡ length kept.public.requests
-count-seen kept running digits Ignored = refl
-count-seen kept running digits (Took shown) = refl
-count-seen kept running digits (Ended shown completion) = length-finished _ kept.public.requests
+count-seen : (set : Setting) (kept : Kept) (running : Running) (digits : List ℕ) (seen : Seen) → length (kept_seen set kept running digits seen).state.public.requests ≡ length kept.public.requests
+count-seen set kept running digits Ignored = refl
+count-seen set kept running digits (Took shown) = refl
+count-seen set kept running digits (Ended shown completion) = length-finished _ kept.public.requests
 
 count-active : (b : Bool) (kept : Kept) (x : KeptAfter) → length x.state.public.requests ≡ length kept.public.requests → length (if b then x else record { state = kept; outs = [] }).state.public.requests ≡ length kept.public.requests
 count-active true kept x same = same
 count-active false kept x same = refl
 
-count-press : (kept : Kept) (found : Option Running) (key : Key) → length (kept_press_in some_setting kept found key).state.public.requests ≡ length kept.public.requests
-count-press kept None key = refl
-count-press kept (Some running) key = count-active (has_key running.entry.active key) kept _ (count-seen kept running _ _)
+count-press : (set : Setting) (kept : Kept) (found : Option Running) (key : Key) → length (kept_press_in set kept found key).state.public.requests ≡ length kept.public.requests
+count-press set kept None key = refl
+count-press set kept (Some running) key = count-active (has_key running.entry.active key) kept _ (count-seen set kept running _ _)
+
+count-due : (set : Setting) (public : Public) (held : List ℕ) (asked : Asked Command) (c : Command) → due_finish (entry_of c) ≡ Some step.Finish → length (finish_by set public held asked c Quiet).public.requests ≡ length public.requests
+count-due set public held asked c due =
+    let ends = ends-by set public held asked c due in
+    rw ends.1 (length-finished ends.0 public.requests)
+
+count-by : (set : Setting) (public : Public) (held : List ℕ) (asked : Asked Command) (c : Command) → length (finish_by set public held asked c Quiet).public.requests ≡ length public.requests
+count-by set public held asked (command.GetPin rules) = refl
+count-by set public held asked (command.GetData rules) = refl
+count-by set public held asked (command.SecureKeyEntry rules) = refl
+count-by set public held asked (command.MaintainPin on) = count-due set public held asked (command.MaintainPin on) refl
+count-by set public held asked (command.Pin wanted) = count-due set public held asked (command.Pin wanted) refl
+count-by set public held asked (command.Crypt wanted) = count-due set public held asked (command.Crypt wanted) refl
+count-by set public held asked (command.ImportKey wanted) = count-due set public held asked (command.ImportKey wanted) refl
+count-by set public held asked (command.DeleteKey name) = count-due set public held asked (command.DeleteKey name) refl
+count-by set public held asked command.Init = count-due set public held asked command.Init refl
+count-by set public held asked command.Reset = count-due set public held asked command.Reset refl
+count-by set public held asked command.RsaImport = count-due set public held asked command.RsaImport refl
+
+count-finish : (set : Setting) (public : Public) (held : List ℕ) (work : Option (Asked Command)) → length (finish_with set public held work Quiet).public.requests ≡ length public.requests
+count-finish set public held None = refl
+count-finish set public held (Some asked) = count-by set public held asked asked.command
 
 le-of : {few many : ℕ} → few ≡ many → few ≤ many + 0
 le-of same = omega (arith, same)
 
 -- a step of a line draws one id at most
-pub drawn-next : (kept : Kept) (s : Step) → IsTrue (is_well_formed s) → length (kept_next some_setting kept s Quiet).state.public.requests ≤ length kept.public.requests + draws s
-drawn-next kept (step.Open session) formed = le-of (count-if (is_open session kept.public.sessions) _ _ (length kept.public.requests) refl refl)
-drawn-next kept (step.Close session) formed = cc
-drawn-next kept (step.Listen session classes) formed = le-of (count-if (is_open session kept.public.sessions) _ _ (length kept.public.requests) refl refl)
-drawn-next kept (step.Lock session) formed = cc
-drawn-next kept (step.Unlock session) formed = cc
-drawn-next kept (step.Submit session limit command) formed = count-submit kept.public session limit command (submit_refusal some_setting.works kept.public session command)
-drawn-next kept (step.Cancel session id) formed = cc
-drawn-next kept step.Begin formed = le-of (count-if (is_off kept.public.device) (unchanged kept.public) (begin_with kept.public (working kept.public.requests) (eligible (holder_of kept.public.line) kept.public.requests)) (length kept.public.requests) refl (count-with kept.public (working kept.public.requests) (eligible (holder_of kept.public.line) kept.public.requests)))
-drawn-next kept step.Finish formed = cc
-drawn-next kept (step.Press key) formed = le-of (count-press kept (running kept.public) key)
-drawn-next kept (step.Tick ticks) formed = cc
-drawn-next kept (step.Ask session question) formed = cc
-drawn-next kept step.Off formed = cc
-drawn-next kept step.Boot formed = cc
+pub drawn-next : (set : Setting) (kept : Kept) (s : Step) → IsTrue (is_well_formed s) → length (kept_next set kept s Quiet).state.public.requests ≤ length kept.public.requests + draws s
+drawn-next set kept (step.Open session) formed = le-of (count-if (is_open session kept.public.sessions) _ _ (length kept.public.requests) refl refl)
+drawn-next set kept (step.Close session) formed = cc
+drawn-next set kept (step.Listen session classes) formed = le-of (count-if (is_open session kept.public.sessions) _ _ (length kept.public.requests) refl refl)
+drawn-next set kept (step.Lock session) formed = cc
+drawn-next set kept (step.Unlock session) formed = cc
+drawn-next set kept (step.Submit session limit command) formed = count-submit kept.public session limit command (submit_refusal set.works kept.public session command)
+drawn-next set kept (step.Cancel session id) formed = cc
+drawn-next set kept step.Begin formed = le-of (count-if (is_off kept.public.device) (unchanged kept.public) (begin_with kept.public (working kept.public.requests) (eligible (holder_of kept.public.line) kept.public.requests)) (length kept.public.requests) refl (count-with kept.public (working kept.public.requests) (eligible (holder_of kept.public.line) kept.public.requests)))
+drawn-next set kept step.Finish formed = le-of (count-finish set kept.public kept.held (working kept.public.requests))
+drawn-next set kept (step.Press key) formed = le-of (count-press set kept (running kept.public) key)
+drawn-next set kept (step.Tick ticks) formed = cc
+drawn-next set kept (step.Ask session question) formed = cc
+drawn-next set kept step.Off formed = cc
+drawn-next set kept step.Boot formed = cc

@@ -2,7 +2,7 @@
 ghost use Rattle.std.specs.Prelude.{◌≡◌, ◌<◌, ◌≤◌, ◌+◌, ◌++◌, ◌∷◌, ◌&&◌, ◌==◌, [], OnOk, OnErr, drop, take, length};
 ghost use Rattle.pad_machine.specs.Book.{place_above};
 ghost use Rattle.std.specs.List.{list_any};
-ghost use Rattle.flat_machine.specs.Sessions.{is_open as session_open, with_session, with_classes, listening as row_listening, execute_event};
+ghost use Rattle.flat_machine.specs.Sessions.{is_open as session_open, with_session, with_classes, listening as row_listening, execute_event, service_events};
 
 use flat_machine::types::SessionRow;
 use pad_steps::{Classes, Event, Out, Outs};
@@ -89,5 +89,17 @@ pub fn send(rows: &[SessionRow], session: Session, event: Event, out: &mut Outs)
 {
     if hears(rows, session) {
         say(out, Out::Event(session, event));
+    }
+}
+
+/// Sends an event to every session that hears service events, where there is room for as many as there are sessions.
+pub fn announce(rows: &[SessionRow], event: &Event, out: &mut Outs)
+    requires { length rows.now ≤ out.old.spare }
+    ensures { out.new.items ≡ out.old.items ++ service_events rows.now event.now }
+{
+    for row in rows {
+        if row.classes.service {
+            say(out, Out::Event(row.session, event.copy()));
+        }
     }
 }

@@ -1,21 +1,22 @@
 // The digits of a PIN: those of a running entry, and those that are held.
-ghost use Rattle.std.specs.Prelude.{◌≡◌, ◌<◌, ◌≤◌, ◌-◌, ◌++◌, ◌∷◌, [], length, take};
+ghost use Rattle.std.specs.Prelude.{◌≡◌, ◌<◌, ◌≤◌, ◌-◌, ◌++◌, ◌∷◌, [], length, map, take};
 
 use arrayvec::ArrayVec;
+use pad_words::Digit;
 use std::marker::Model;
 
 /// At most 16 digits.
 #[derive(Drop)]
 pub struct PinDigits {
-    values: ArrayVec<u8, 16>,
+    digits: ArrayVec<Digit, 16>,
 }
 
 impl Model for PinDigits {
-    ghost use Rattle.std.specs.Prelude.{ℕ, List};
+    ghost use Rattle.std.specs.Prelude.{ℕ, List, map};
 
     ghost Value = { List ℕ };
 
-    ghost view = { λ d. d.values.items };
+    ghost view = { λ d. map (λ digit. digit.value) d.digits.items };
 }
 
 impl PinDigits {
@@ -23,7 +24,7 @@ impl PinDigits {
         ensures { result ≡ [] }
     {
         PinDigits {
-            values: ArrayVec::new(),
+            digits: ArrayVec::new(),
         }
     }
 
@@ -31,25 +32,31 @@ impl PinDigits {
         ensures value { result ≡ length self.now }
         ensures few { result ≤ 16 }
     {
-        self.values.len()
+        self.digits.len()
     }
 
-    pub fn push(&mut self, value: u8)
+    pub fn push(&mut self, digit: Digit)
         requires { length self.old < 16 }
-        ensures { self.new ≡ self.old ++ value ∷ [] }
+        ensures { self.new ≡ self.old ++ digit.value ∷ [] }
     {
-        self.values.push(value);
+        self.digits.push(digit);
+    }
+
+    pub fn digits(&self) -> &[Digit]
+        ensures { map (λ digit. digit.value) result.now ≡ self.now }
+    {
+        self.digits.as_slice()
     }
 
     pub fn drop_last(&mut self)
         ensures { self.new ≡ take (length self.old - 1) self.old }
     {
-        let _ = self.values.pop();
+        let _ = self.digits.pop();
     }
 
     pub fn clear(&mut self)
         ensures { self.new ≡ [] }
     {
-        self.values.clear();
+        self.digits.clear();
     }
 }

@@ -36,7 +36,7 @@ pub fn take_key(rules: &EntryRules, digits: &mut PinDigits, key: Key)
     match key {
         Key::Digit(digit) => {
             if digits.len() < greatest(rules) {
-                digits.push(digit.get());
+                digits.push(digit);
             }
         }
         Key::Cancel | Key::Clear => digits.clear(),

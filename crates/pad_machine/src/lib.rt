@@ -2,8 +2,10 @@
 #![tactic(auto)]
 
 mod book;
+mod deciding;
 mod digits;
 mod entry;
+mod keys;
 mod pad;
 mod queue;
 

@@ -1,24 +1,27 @@
 //! The pad and its step.
-ghost use Rattle.std.specs.Prelude.{◌≡◌, ◌<◌, ◌≤◌, ◌+◌, ◌-◌, ◌^◌, ◌++◌, [], IsTrue, IfOk, IfSome, IsOk, OnOk, OnErr, Some, false, length};
+ghost use Rattle.std.specs.Prelude.{◌≡◌, ◌<◌, ◌≤◌, ◌+◌, ◌-◌, ◌^◌, ◌++◌, [], ℕ, IsTrue, IfOk, IfSome, IsOk, OnOk, OnErr, Some, false, length};
 ghost use Rattle.pad_steps.specs.Formed.{is_well_formed, is_well_formed_command};
 ghost use Rattle.pad_steps.specs.declared.steps.Step.{Step};
 ghost use Rattle.pad_steps.specs.declared.steps.DiskWord.TheVariants.{Quiet};
 ghost use Rattle.pad_steps.specs.declared.answers.Reply.TheVariants.{Ok as ReplyOk};
 ghost use Rattle.pad_steps.specs.declared.answers.Answer.TheVariants.{Entered};
-ghost use Rattle.flat_machine.specs.Works.{Setting};
+ghost use Rattle.flat_machine.specs.Standard.{standard_setting};
 ghost use Rattle.flat_machine.specs.State.{Flat, is_off, running, ready_opening};
 ghost use Rattle.flat_machine.specs.Kept.{kept_said, kept_ends, kept_next, kept_press_in};
 ghost use Rattle.flat_machine.specs.SessionSteps.{next_open, next_listen};
 ghost use Rattle.flat_machine.specs.RequestSteps.{next_submit};
 ghost use Rattle.flat_machine.specs.EntrySteps.{next_begin};
-ghost use Rattle.flat_machine.specs.Machine.{next, masked, next_work, fits, release};
+ghost use Rattle.flat_machine.specs.Machine.{next, masked, next_work, fits, planned, release};
 ghost use Rattle.flat_machine.specs.Twins.{Alike, AlikeAfter, TwinSteps};
 ghost use Rattle.pad_machine.specs.Stands.{StandsFor, draws, is_press, running_of, work_left};
+
+mod finishing;
 
 use crate::book::{enter, is_open, listen, say, send};
 use crate::digits::PinDigits;
 use crate::entry::{RunningEntry, is_secret_key, seen, take_key};
-use crate::queue::Queue;
+use crate::keys::NamedKey;
+use crate::queue::{Queue, entry_of};
 use flat_machine::laws::kept::kept_steps;
 use flat_machine::laws::twins::unwinding;
 use flat_machine::types::{Asked, Seen, SessionRow};
@@ -38,10 +41,11 @@ pub struct Stepped {
     pub word: DiskWord,
 }
 
-/// The pad: the open sessions, the requests, the digits of the running entry, and the held PIN.
+/// The pad: the keys, the open sessions, the requests, the digits of the running entry, and the held PIN.
 #[derive(Drop)]
 pub struct Pad {
     alloc: Global,
+    keys: Vec<NamedKey>,
     sessions: Vec<SessionRow>,
     requests: Queue,
     digits: PinDigits,
@@ -54,11 +58,11 @@ impl Model for Pad {
 
     ghost Value = { Kept };
 
-    ghost view = { λ p. record { public = kept_public p.sessions.items p.requests; digits = p.digits; held = p.held } };
+    ghost view = { λ p. record { public = kept_public p.keys.items p.sessions.items p.requests; digits = p.digits; held = p.held } };
 }
 
 impl Pad {
-    /// A pad that is on, with nothing open, asked or held.
+    /// A pad that is on, with no key, and nothing open, asked or held.
     pub fn new(alloc: Global) -> Result<Pad, NoMemory>
         ensures { IfOk result (λ pad. StandsFor pad ready_opening) }
     {
@@ -67,6 +71,7 @@ impl Pad {
         };
         Ok(Pad {
             alloc,
+            keys: Vec::new(alloc),
             sessions,
             requests: Queue::empty(alloc),
             digits: PinDigits::empty(),
@@ -82,16 +87,17 @@ impl Pad {
         // No step calls a device yet.
         ensures quiet { IfOk result (λ stepped. stepped.word ≡ Quiet) }
 
-        // For every state that the pad stands for, the step is the machine's.
-        ensures fits { IfOk result (λ stepped. (setting : Setting) (state : Flat) → StandsFor self.old state → IsTrue (fits setting state.public step.now stepped.word)) }
-        ensures state { IfOk result (λ stepped. (setting : Setting) (state : Flat) → StandsFor self.old state → StandsFor self.new (next setting state step.now stepped.word).state) }
-        ensures outs { IfOk result (λ stepped. (setting : Setting) (state : Flat) → StandsFor self.old state →
-            out.new.items ≡ out.old.items ++ (next setting state step.now stepped.word).outs) }
+        // For every state that the pad stands for, the step is the machine's. There is no store yet: a step that the machine plans
+        // without a device call has its word, and one that replaces a key comes to what a store does that never fails.
+        ensures fits { IfOk result (λ stepped. (fill : ℕ → ℕ) (state : Flat) → StandsFor self.old state → planned (standard_setting fill) state.public step.now ≡ 0 → IsTrue (fits (standard_setting fill) state.public step.now stepped.word)) }
+        ensures state { IfOk result (λ stepped. (fill : ℕ → ℕ) (state : Flat) → StandsFor self.old state → StandsFor self.new (next (standard_setting fill) state step.now stepped.word).state) }
+        ensures outs { IfOk result (λ stepped. (fill : ℕ → ℕ) (state : Flat) → StandsFor self.old state →
+            out.new.items ≡ out.old.items ++ (next (standard_setting fill) state step.now stepped.word).outs) }
 
         // An alike state that takes a twin step and releases the same says the same, and stays alike.
-        ensures unwinding { IfOk result (λ stepped. (setting : Setting) (state other : Flat) (twin : Step) → StandsFor self.old state → Alike state other →
-            TwinSteps state.public step.now twin → release setting other twin ≡ release setting state step.now →
-            AlikeAfter (next setting state step.now stepped.word) (next setting other twin stepped.word)) }
+        ensures unwinding { IfOk result (λ stepped. (fill : ℕ → ℕ) (state other : Flat) (twin : Step) → StandsFor self.old state → Alike state other →
+            TwinSteps state.public step.now twin → release (standard_setting fill) other twin ≡ release (standard_setting fill) state step.now →
+            AlikeAfter (next (standard_setting fill) state step.now stepped.word) (next (standard_setting fill) other twin stepped.word)) }
         ensures err { OnErr result ((self.new ≡ self.old) × (out.new.items ≡ out.old.items)) }
 
         // A press takes no memory where two places are spare.
@@ -114,8 +120,8 @@ impl Pad {
     fn act(&mut self, step: &Step, out: &mut Outs) -> Result<(), NoMemory>
         requires formed { IsTrue (is_well_formed step.now) }
         requires ids { length self.old.public.requests < 2 ^ 32 - 2 }
-        ensures state { OnOk result ((setting : Setting) → self.new ≡ (kept_next setting self.old step.now Quiet).state) }
-        ensures outs { OnOk result ((setting : Setting) → out.new.items ≡ out.old.items ++ (kept_next setting self.old step.now Quiet).outs) }
+        ensures state { OnOk result ((fill : ℕ → ℕ) → self.new ≡ (kept_next (standard_setting fill) self.old step.now Quiet).state) }
+        ensures outs { OnOk result ((fill : ℕ → ℕ) → out.new.items ≡ out.old.items ++ (kept_next (standard_setting fill) self.old step.now Quiet).outs) }
         ensures err { OnErr result ((self.new ≡ self.old) × (out.new.items ≡ out.old.items)) }
         ensures press { IsTrue (is_press step.now) → 2 ≤ out.old.spare → IsOk result }
     {
@@ -124,13 +130,14 @@ impl Pad {
             Step::Listen(session, classes) => self.listen(*session, *classes, out),
             Step::Submit(session, limit, command) => self.submit(*session, *limit, command, out),
             Step::Begin => self.begin(out),
+            Step::Finish => self.finish(out),
             Step::Press(key) => self.press(*key, out),
             // No line spells the others.
             _ => unreachable!(),
         }
     }
 
-    /// The step that is due: Begin where no request is in work and one waits.
+    /// The step that is due: Finish of a command in work that is no entry, or Begin where nothing is in work and a request waits.
     pub fn next_work(&self) -> Option<Step>
         ensures due { (state : Flat) → StandsFor self.now state → result ≡ next_work state.public }
         ensures kept { result ≡ next_work self.now.public }
@@ -138,9 +145,12 @@ impl Pad {
         ensures on { IfSome result (λ step. is_off self.now.public.device ≡ false) }
         ensures draws { IfSome result (λ step. draws step ≡ 0) }
     {
-        match self.requests.running() {
-            Some(_) => None,
-            None => match self.requests.next() {
+        match self.requests.in_work() {
+            Some(asked) => match entry_of(asked) {
+                Some(_) => None,
+                None => Some(Step::Finish),
+            },
+            None => match self.requests.waiting() {
                 Some(_) => Some(Step::Begin),
                 None => None,
             },
@@ -208,8 +218,8 @@ impl Pad {
     ) -> Result<(), NoMemory>
         requires built { IsTrue (is_well_formed_command command.now) }
         requires ids { length self.old.public.requests < 2 ^ 32 - 2 }
-        ensures state { OnOk result ((setting : Setting) → self.new ≡ (kept_said self.old (next_submit setting.works self.old.public session limit command.now)).state) }
-        ensures outs { OnOk result ((setting : Setting) → out.new.items ≡ out.old.items ++ (next_submit setting.works self.old.public session limit command.now).outs) }
+        ensures state { OnOk result ((fill : ℕ → ℕ) → self.new ≡ (kept_said self.old (next_submit (standard_setting fill).works self.old.public session limit command.now)).state) }
+        ensures outs { OnOk result ((fill : ℕ → ℕ) → out.new.items ≡ out.old.items ++ (next_submit (standard_setting fill).works self.old.public session limit command.now).outs) }
         ensures err { OnErr result ((self.new ≡ self.old) × (out.new.items ≡ out.old.items)) }
     {
         out.reserve(1)?;
@@ -239,21 +249,26 @@ impl Pad {
         ensures err { OnErr result ((self.new ≡ self.old) × (out.new.items ≡ out.old.items)) }
     {
         out.reserve(1)?;
-        match (self.requests.running(), self.requests.next()) {
-            (None, Some(session)) => {
-                self.requests.begin();
-                self.digits.clear();
-                self.held.clear();
-                send(self.sessions.as_slice(), session, Event::EnterData, out);
-            }
-            _ => {}
+        if self.requests.in_work().is_some() {
+            return Ok(());
+        }
+        let Some(asked) = self.requests.waiting() else {
+            return Ok(());
+        };
+        let session = asked.session;
+        let entry = entry_of(asked);
+        self.requests.begin();
+        self.digits.clear();
+        if entry.is_some() {
+            self.held.clear();
+            send(self.sessions.as_slice(), session, Event::EnterData, out);
         }
         Ok(())
     }
 
     fn press(&mut self, key: Key, out: &mut Outs) -> Result<(), NoMemory>
-        ensures state { OnOk result ((setting : Setting) → self.new ≡ (kept_press_in setting self.old (running self.old.public) key).state) }
-        ensures outs { OnOk result ((setting : Setting) → out.new.items ≡ out.old.items ++ (kept_press_in setting self.old (running self.old.public) key).outs) }
+        ensures state { OnOk result ((fill : ℕ → ℕ) → self.new ≡ (kept_press_in (standard_setting fill) self.old (running self.old.public) key).state) }
+        ensures outs { OnOk result ((fill : ℕ → ℕ) → out.new.items ≡ out.old.items ++ (kept_press_in (standard_setting fill) self.old (running self.old.public) key).outs) }
         ensures err { OnErr result ((self.new ≡ self.old) × (out.new.items ≡ out.old.items)) }
         ensures spare { 2 ≤ out.old.spare → IsOk result }
     {
@@ -290,8 +305,8 @@ impl Pad {
         out: &mut Outs,
     )
         requires { 2 ≤ out.old.spare }
-        ensures state { (setting : Setting) → self.new ≡ (kept_ends setting self.old (running_of entry) shown completion self.old.digits).state }
-        ensures outs { (setting : Setting) → out.new.items ≡ out.old.items ++ (kept_ends setting self.old (running_of entry) shown completion self.old.digits).outs }
+        ensures state { (fill : ℕ → ℕ) → self.new ≡ (kept_ends (standard_setting fill) self.old (running_of entry) shown completion self.old.digits).state }
+        ensures outs { (fill : ℕ → ℕ) → out.new.items ≡ out.old.items ++ (kept_ends (standard_setting fill) self.old (running_of entry) shown completion self.old.digits).outs }
     {
         send(
             self.sessions.as_slice(),

@@ -1,7 +1,7 @@
 // The requests of a run: all rows, and the place from which some may be pending.
-ghost use Rattle.std.specs.Prelude.{◌≡◌, ◌<◌, ◌≤◌, ◌+◌, ◌++◌, ◌∷◌, [], IsTrue, OnOk, OnErr, None, Some, IfSome, IfNone, length, take};
+ghost use Rattle.std.specs.Prelude.{◌≡◌, ◌<◌, ◌≤◌, ◌+◌, ◌++◌, ◌∷◌, [], IsTrue, OnOk, OnErr, None, IfSome, length, take};
 ghost use Rattle.std.specs.List.{count_by, list_all};
-ghost use Rattle.std.specs.Option.{option_map};
+ghost use Rattle.std.specs.Option.{option_copied, option_map};
 ghost use Rattle.flat_machine.specs.Entries.{entry_of as command_entry};
 ghost use Rattle.flat_machine.specs.Sound.{pending_pass};
 ghost use Rattle.flat_machine.specs.State.{running_by, running_in};
@@ -66,21 +66,31 @@ impl Queue {
         pending_rows(&self.rows[self.start..], session)
     }
 
-    /// The entry of the request in work.
-    pub fn running(&self) -> Option<RunningEntry>
-        ensures entry { option_map running_of result ≡ running_in (working self.now) }
-        ensures idle { IfNone result (working self.now ≡ None) }
-        ensures built { IfSome result (λ entry. IsTrue (is_built_entry entry.rules)) }
+    /// The request in work.
+    pub fn in_work(&self) -> Option<&Asked<Command>>
+        ensures asked { option_copied result ≡ working self.now }
+        ensures built { IfSome result (λ asked. IsTrue (is_well_formed_command asked.now.command)) }
     {
-        running_entry(&self.rows[self.start..])
+        first_in_work(&self.rows[self.start..])
     }
 
-    /// The session of the first request that waits.
-    pub fn next(&self) -> Option<Session>
-        ensures session { result ≡ option_map (λ (asked : Asked Command). asked.session) (eligible None self.now) }
-        ensures built { IfSome (eligible None self.now) (λ asked. IsTrue (is_well_formed_command asked.command)) }
+    /// The entry of the request in work, if that is an entry.
+    pub fn running(&self) -> Option<RunningEntry>
+        ensures entry { option_map running_of result ≡ running_in (working self.now) }
+        ensures built { IfSome result (λ entry. IsTrue (is_built_entry entry.rules)) }
     {
-        waiting_session(&self.rows[self.start..])
+        match self.in_work() {
+            Some(asked) => entry_of(asked),
+            None => None,
+        }
+    }
+
+    /// The first request that waits.
+    pub fn waiting(&self) -> Option<&Asked<Command>>
+        ensures asked { option_copied result ≡ eligible None self.now }
+        ensures built { IfSome result (λ asked. IsTrue (is_well_formed_command asked.now.command)) }
+    {
+        first_waiting(&self.rows[self.start..])
     }
 
     /// A request that waits, put last. After want of memory all is as before.
@@ -130,45 +140,47 @@ fn is_pending_of(row: &Row<Command, Reply>, session: Session) -> bool
     }
 }
 
-// The entry of the request in work among these.
-fn running_entry(rows: &[Row<Command, Reply>]) -> Option<RunningEntry>
+// The request in work among these.
+fn first_in_work(rows: &[Row<Command, Reply>]) -> Option<&Asked<Command>>
     requires { IsTrue (pending_pass is_well_formed_command rows.now) }
-    ensures entry { option_map running_of result ≡ running_in (working rows.now) }
-    ensures idle { IfNone result (working rows.now ≡ None) }
-    ensures built { IfSome result (λ entry. IsTrue (is_built_entry entry.rules)) }
+    ensures asked { option_copied result ≡ working rows.now }
+    ensures built { IfSome result (λ asked. IsTrue (is_well_formed_command asked.now.command)) }
 {
     for row in rows {
         if let Row::InWork(asked) = row {
-            return Some(entry_of(asked));
+            return Some(asked);
         }
     }
     None
 }
 
-// The entry that the request asks for.
-fn entry_of(asked: &Asked<Command>) -> RunningEntry
+/// The entry that the request asks for, if it asks for one.
+pub fn entry_of(asked: &Asked<Command>) -> Option<RunningEntry>
     requires { IsTrue (is_well_formed_command asked.now.command) }
-    ensures entry { Some (running_of result) ≡ running_by asked.now (command_entry asked.now.command) }
-    ensures built { IsTrue (is_built_entry result.rules) }
+    ensures entry { option_map running_of result ≡ running_by asked.now (command_entry asked.now.command) }
+    ensures built { IfSome result (λ entry. IsTrue (is_built_entry entry.rules)) }
 {
     match &asked.command {
-        Command::GetPin(rules) => RunningEntry {
+        Command::GetPin(rules) => Some(RunningEntry {
             id: asked.id,
             session: asked.session,
             rules: *rules,
-        },
+        }),
+        Command::Pin(_) | Command::ImportKey(_) => None,
         // No line asks for another command.
         _ => unreachable!(),
     }
 }
 
-// The session of the first of these requests that waits.
-fn waiting_session(rows: &[Row<Command, Reply>]) -> Option<Session>
-    ensures { result ≡ option_map (λ (asked : Asked Command). asked.session) (eligible None rows.now) }
+// The first of these requests that waits.
+fn first_waiting(rows: &[Row<Command, Reply>]) -> Option<&Asked<Command>>
+    requires { IsTrue (pending_pass is_well_formed_command rows.now) }
+    ensures asked { option_copied result ≡ eligible None rows.now }
+    ensures built { IfSome result (λ asked. IsTrue (is_well_formed_command asked.now.command)) }
 {
     for row in rows {
         if let Row::Waiting(asked) = row {
-            return Some(asked.session);
+            return Some(asked);
         }
     }
     None

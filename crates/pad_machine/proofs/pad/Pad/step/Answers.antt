@@ -1,26 +1,27 @@
 use Rattle.std.proofs.Common.{ap, sym, ◌∙◌, refl}
 use Rattle.pad_steps.specs.declared.steps.DiskWord.TheVariants.{Quiet}
 use Rattle.flat_machine.specs.Kept.{Kept, kept_next}
+use Rattle.flat_machine.specs.Standard.{standard_setting}
 use Rattle.pad_machine.proofs.PressLemmas.{appended}
-use Rattle.pad_machine.proofs.WorkLemmas.{drawn-next, less-next, some_setting}
+use Rattle.pad_machine.proofs.WorkLemmas.{drawn-next, less-next, no_fill}
 use Rattle.pad_machine.proofs.pad.Pad.step.Goals as goal
 
 pub returns-clause-state : goal.returns-clause-state
-returns-clause-state c = λ set h stands.
-    c.in_ok-act.ensures.state set
-    ∙ ap (λ (k : Kept). (kept_next set k c.args.step.now Quiet).state) stands
-    ∙ sym (c.kept_steps.ensures.state set h c.args.step.now Quiet)
+returns-clause-state c = λ fill h stands.
+    c.in_ok-act.ensures.state fill
+    ∙ ap (λ (k : Kept). (kept_next (standard_setting fill) k c.args.step.now Quiet).state) stands
+    ∙ sym (c.kept_steps.ensures.state (standard_setting fill) h c.args.step.now Quiet)
 
 pub returns-clause-outs : goal.returns-clause-outs
-returns-clause-outs c = λ set h stands.
-    appended _ _ c.args.out.now.items (c.in_ok-act.ensures.outs set) refl
-    (ap (λ (k : Kept). (kept_next set k c.args.step.now Quiet).outs) stands ∙ sym (c.kept_steps.ensures.outs set h c.args.step.now Quiet))
+returns-clause-outs c = λ fill h stands.
+    appended _ _ c.args.out.now.items (c.in_ok-act.ensures.outs fill) refl
+    (ap (λ (k : Kept). (kept_next (standard_setting fill) k c.args.step.now Quiet).outs) stands ∙ sym (c.kept_steps.ensures.outs (standard_setting fill) h c.args.step.now Quiet))
 
 pub returns-clause-unwinding : goal.returns-clause-unwinding
-returns-clause-unwinding c = λ set h g t stands alike twin same. c.unwinding.ensures set h g c.args.step.now t Quiet alike twin same
+returns-clause-unwinding c = λ fill h g t stands alike twin same. c.unwinding.ensures (standard_setting fill) h g c.args.step.now t Quiet alike twin same
 
 pub returns-clause-less : goal.returns-clause-less
-returns-clause-less c = λ on due. rw (c.in_ok-act.ensures.state some_setting) (less-next c.args.self.now c.args.step.now c.requires.formed on due)
+returns-clause-less c = λ on due. rw (c.in_ok-act.ensures.state no_fill) (less-next (standard_setting no_fill) c.args.self.now c.args.step.now on due)
 
 pub returns-clause-ids : goal.returns-clause-ids
-returns-clause-ids c = rw (c.in_ok-act.ensures.state some_setting) (drawn-next c.args.self.now c.args.step.now c.requires.formed)
+returns-clause-ids c = rw (c.in_ok-act.ensures.state no_fill) (drawn-next (standard_setting no_fill) c.args.self.now c.args.step.now c.requires.formed)
