@@ -7,7 +7,6 @@ use Rattle.disk_core.specs.Streams.{GivesFront, with_more}
 use Rattle.flat_machine.specs.Kept.{Kept}
 use Rattle.flat_machine.specs.Machine.{Act}
 use Rattle.flat_machine.specs.State.{Flat, ready_opening}
-use Rattle.flat_machine.specs.Works.{Setting}
 use Rattle.pad_machine.specs.Stands.{StandsFor}
 use Rattle.pad_steps.specs.declared.steps.DiskWord.{DiskWord}
 use Rattle.pinpad_cli.proofs.RunLemmas.{finished-ran, front-broke, front-whole}
@@ -18,47 +17,47 @@ use Rattle.pinpad_cli.specs.Runs.{has_word_per_step, play, play_lines, steps_of,
 use Rattle.pinpad_cli.specs.Script.{lines_of}
 use Rattle.script_lang.specs.declared.kinds.Line.{Line}
 
-module _ (set : Setting) where
-  steps_of-lines : (script : List ℕ) (lines : List Line) (words : List DiskWord) → lines_of script ≡ Some lines → steps_of set script words ≡ (play set lines ready_opening words).acts
+module _ (fill : ℕ → ℕ) where
+  steps_of-lines : (script : List ℕ) (lines : List Line) (words : List DiskWord) → lines_of script ≡ Some lines → steps_of fill script words ≡ (play fill lines ready_opening words).acts
   unfolding steps_of
-  steps_of-lines script lines words is = ap (λ (found : Option (List Line)). (play_lines set found words).acts) is
+  steps_of-lines script lines words is = ap (λ (found : Option (List Line)). (play_lines fill found words).acts) is
 
-  has_word-lines : (script : List ℕ) (lines : List Line) (words : List DiskWord) → lines_of script ≡ Some lines → has_word_per_step set script words ≡ (play set lines ready_opening words).whole
+  has_word-lines : (script : List ℕ) (lines : List Line) (words : List DiskWord) → lines_of script ≡ Some lines → has_word_per_step fill script words ≡ (play fill lines ready_opening words).whole
   unfolding has_word_per_step
-  has_word-lines script lines words is = ap (λ (found : Option (List Line)). (play_lines set found words).whole) is
+  has_word-lines script lines words is = ap (λ (found : Option (List Line)). (play_lines fill found words).whole) is
 
   pub script-ran : (script : List ℕ) (lines slice : List Line) (kept : Kept) (words told : List DiskWord) (given now : Option (List ℕ)) → lines_of script ≡ Some lines → slice ≡ lines → words ≡ []
-      → Ran set ready_opening (play set slice) (play set []) kept words told given now → (has_word_per_step set script told ≡ true) × (now ≡ with_more given (text_of set (steps_of set script told)))
+      → Ran fill ready_opening (play fill slice) (play fill []) kept words told given now → (has_word_per_step fill script told ≡ true) × (now ≡ with_more given (text_of fill (steps_of fill script told)))
   script-ran script lines slice kept words told given now is same none ran =
-      let from_words = λ (w : List DiskWord). Ran set ready_opening (play set lines) (play set []) kept w told given now in
-      let from_lines = λ (l : List Line). Ran set ready_opening (play set l) (play set []) kept words told given now in
-      let done = finished-ran set lines kept told given now (subst from_words none (subst from_lines same ran)) in
-      (has_word-lines script lines told is ∙ done.whole, done.printed ∙ ap (λ (acts : List Act). with_more given (text_of set acts)) (sym (steps_of-lines script lines told is)))
+      let from_words = λ (w : List DiskWord). Ran fill ready_opening (play fill lines) (play fill []) kept w told given now in
+      let from_lines = λ (l : List Line). Ran fill ready_opening (play fill l) (play fill []) kept words told given now in
+      let done = finished-ran fill lines kept told given now (subst from_words none (subst from_lines same ran)) in
+      (has_word-lines script lines told is ∙ done.whole, done.printed ∙ ap (λ (acts : List Act). with_more given (text_of fill acts)) (sym (steps_of-lines script lines told is)))
 
   pub script-broke : (script : List ℕ) (lines slice : List Line) (words told : List DiskWord) (given now : Option (List ℕ)) → lines_of script ≡ Some lines → slice ≡ lines → words ≡ []
-      → BrokeOff set ready_opening (play set slice) words told given now → GivesFront given now (text_of set (steps_of set script told))
+      → BrokeOff fill ready_opening (play fill slice) words told given now → GivesFront given now (text_of fill (steps_of fill script told))
   script-broke script lines slice words told given now is same none broke =
-      let from_words = λ (w : List DiskWord). BrokeOff set ready_opening (play set lines) w told given now in
-      let from_lines = λ (l : List Line). BrokeOff set ready_opening (play set l) words told given now in
-      subst (λ (acts : List Act). GivesFront given now (text_of set acts)) (sym (steps_of-lines script lines told is)) (front-broke set lines told given now (subst from_words none (subst from_lines same broke)))
+      let from_words = λ (w : List DiskWord). BrokeOff fill ready_opening (play fill lines) w told given now in
+      let from_lines = λ (l : List Line). BrokeOff fill ready_opening (play fill l) words told given now in
+      subst (λ (acts : List Act). GivesFront given now (text_of fill acts)) (sym (steps_of-lines script lines told is)) (front-broke fill lines told given now (subst from_words none (subst from_lines same broke)))
 
   -- however the run went, a front of the text was given
   pub script-front : (script : List ℕ) (lines slice : List Line) (before kept : Kept) (words told answered : List DiskWord) (given now : Option (List ℕ)) (fault : Option Fault) → StandsFor before ready_opening → lines_of script ≡ Some lines → slice ≡ lines → words ≡ [] → answered ≡ told
-      → IfNone fault ((s : Setting) (state : Flat) → StandsFor before state → Ran s state (play s slice) (play s []) kept words told given now)
-      → OnSome fault ((s : Setting) (state : Flat) → StandsFor before state → BrokeOff s state (play s slice) words told given now)
-      → GivesFront given now (text_of set (steps_of set script answered))
+      → IfNone fault ((s : ℕ → ℕ) (state : Flat) → StandsFor before state → Ran s state (play s slice) (play s []) kept words told given now)
+      → OnSome fault ((s : ℕ → ℕ) (state : Flat) → StandsFor before state → BrokeOff s state (play s slice) words told given now)
+      → GivesFront given now (text_of fill (steps_of fill script answered))
   script-front script lines slice before kept words told answered given now None stands is same none shown ran broke =
-      rw shown (front-whole given now (text_of set (steps_of set script told)) (script-ran script lines slice kept words told given now is same none (ran set ready_opening stands)).1)
+      rw shown (front-whole given now (text_of fill (steps_of fill script told)) (script-ran script lines slice kept words told given now is same none (ran fill ready_opening stands)).1)
   script-front script lines slice before kept words told answered given now (Some fault) stands is same none shown ran broke =
-      rw shown (script-broke script lines slice words told given now is same none (broke set ready_opening stands))
+      rw shown (script-broke script lines slice words told given now is same none (broke fill ready_opening stands))
 
-  steps_of-same : (script text : List ℕ) (words : List DiskWord) → lines_of text ≡ lines_of script → steps_of set text words ≡ steps_of set script words
+  steps_of-same : (script text : List ℕ) (words : List DiskWord) → lines_of text ≡ lines_of script → steps_of fill text words ≡ steps_of fill script words
   unfolding steps_of
-  steps_of-same script text words same = ap (λ (lines : Option (List Line)). (play_lines set lines words).acts) same
+  steps_of-same script text words same = ap (λ (lines : Option (List Line)). (play_lines fill lines words).acts) same
 
-  has_word-same : (script text : List ℕ) (words : List DiskWord) → lines_of text ≡ lines_of script → has_word_per_step set text words ≡ has_word_per_step set script words
+  has_word-same : (script text : List ℕ) (words : List DiskWord) → lines_of text ≡ lines_of script → has_word_per_step fill text words ≡ has_word_per_step fill script words
   unfolding has_word_per_step
-  has_word-same script text words same = ap (λ (lines : Option (List Line)). (play_lines set lines words).whole) same
+  has_word-same script text words same = ap (λ (lines : Option (List Line)). (play_lines fill lines words).whole) same
 
 -- a text that is too long has no lines
 lines_of-long : (script : List ℕ) → 1048576 < length script → lines_of script ≡ None
@@ -88,13 +87,13 @@ pub read-fact : (before after : Option (List ℕ)) (text : List ℕ) (P : Option
 read-fact None after text P read fact = tt
 read-fact (Some bytes) after text P read fact = subst P (lines_of-read bytes text after read) fact
 
-pub read-words : (before after : Option (List ℕ)) (text : List ℕ) (words : List DiskWord) → IsRead before after text → ((set : Setting) → has_word_per_step set text words ≡ true) → IfSome before (λ bytes. (set : Setting) → has_word_per_step set bytes words ≡ true)
+pub read-words : (before after : Option (List ℕ)) (text : List ℕ) (words : List DiskWord) → IsRead before after text → ((fill : ℕ → ℕ) → has_word_per_step fill text words ≡ true) → IfSome before (λ bytes. (fill : ℕ → ℕ) → has_word_per_step fill bytes words ≡ true)
 read-words None after text words read whole = tt
-read-words (Some bytes) after text words read whole = λ set. sym (has_word-same set bytes text words (lines_of-read bytes text after read)) ∙ whole set
+read-words (Some bytes) after text words read whole = λ fill. sym (has_word-same fill bytes text words (lines_of-read bytes text after read)) ∙ whole fill
 
-pub read-steps : (before after : Option (List ℕ)) (text : List ℕ) (words : List DiskWord) (P : Setting → List Act → Type 0) → IsRead before after text → ((set : Setting) → P set (steps_of set text words)) → IfSome before (λ bytes. (set : Setting) → P set (steps_of set bytes words))
+pub read-steps : (before after : Option (List ℕ)) (text : List ℕ) (words : List DiskWord) (P : (ℕ → ℕ) → List Act → Type 0) → IsRead before after text → ((fill : ℕ → ℕ) → P fill (steps_of fill text words)) → IfSome before (λ bytes. (fill : ℕ → ℕ) → P fill (steps_of fill bytes words))
 read-steps None after text words P read fact = tt
-read-steps (Some bytes) after text words P read fact = λ set. subst (P set) (steps_of-same set bytes text words (lines_of-read bytes text after read)) (fact set)
+read-steps (Some bytes) after text words P read fact = λ fill. subst (P fill) (steps_of-same fill bytes text words (lines_of-read bytes text after read)) (fact fill)
 
 some-lines : (text : List ℕ) (found : Option (List Line)) → lines_of text ≡ found → IsSome found → length text ≤ 1048576
 some-lines text None is some = absurd (no-lines some)

@@ -4,14 +4,13 @@ use Rattle.disk_core.specs.Streams.{GivesFront, with_more}
 use Rattle.flat_machine.specs.Kept.{Kept}
 use Rattle.flat_machine.specs.Machine.{Act}
 use Rattle.flat_machine.specs.State.{Flat}
-use Rattle.flat_machine.specs.Works.{Setting}
 use Rattle.pad_machine.specs.Stands.{StandsFor}
 use Rattle.pad_steps.specs.declared.steps.DiskWord.{DiskWord}
 use Rattle.pinpad_cli.specs.Runs.{Player, play, text_from, with_acts}
 use Rattle.script_lang.specs.declared.kinds.Line.{Line}
 
 -- From a state the machine took the front of a whole: it stands for another state now, and a rest is left to play.
-pub record Took (setting : Setting) (before : Flat) (whole rest : Player) (kept : Kept) (words told : List DiskWord) : Type 0 where
+pub record Took (fill : ℕ → ℕ) (before : Flat) (whole rest : Player) (kept : Kept) (words told : List DiskWord) : Type 0 where
   pub state : Flat
   pub stands : StandsFor kept state
   pub more : List DiskWord
@@ -20,21 +19,21 @@ pub record Took (setting : Setting) (before : Flat) (whole rest : Player) (kept 
   pub played : (tail : List DiskWord) → whole before (more ++ tail) ≡ with_acts done (rest state tail)
 
 -- From a state the machine took the front of a whole, and all of its text was given.
-pub record Ran (setting : Setting) (before : Flat) (whole rest : Player) (kept : Kept) (words told : List DiskWord) (given now : Option (List ℕ)) : Type 0 where
-  pub took : Took setting before whole rest kept words told
+pub record Ran (fill : ℕ → ℕ) (before : Flat) (whole rest : Player) (kept : Kept) (words told : List DiskWord) (given now : Option (List ℕ)) : Type 0 where
+  pub took : Took fill before whole rest kept words told
   pub text : List ℕ
   pub printed : now ≡ with_more given text
-  pub spelled : (others : List Act) → text_from setting before (took.done ++ others) ≡ text ++ text_from setting took.state others
+  pub spelled : (others : List Act) → text_from fill before (took.done ++ others) ≡ text ++ text_from fill took.state others
 
 -- From a state the machine played some of a whole, and a front of the text of that was given.
-pub record BrokeOff (setting : Setting) (before : Flat) (whole : Player) (words told : List DiskWord) (given now : Option (List ℕ)) : Type 0 where
+pub record BrokeOff (fill : ℕ → ℕ) (before : Flat) (whole : Player) (words told : List DiskWord) (given now : Option (List ℕ)) : Type 0 where
   pub more : List DiskWord
   pub told_more : told ≡ words ++ more
-  pub front : GivesFront given now (text_from setting before (whole before more).acts)
+  pub front : GivesFront given now (text_from fill before (whole before more).acts)
 
 -- Of the words told, a front is one for each step of these lines; what is left belongs to a line after them.
-pub record PlaysFront (setting : Setting) (before : Flat) (lines : List Line) (words told : List DiskWord) : Type 0 where
+pub record PlaysFront (fill : ℕ → ℕ) (before : Flat) (lines : List Line) (words told : List DiskWord) : Type 0 where
   pub front : List DiskWord
   pub back : List DiskWord
   pub parts : told ≡ words ++ (front ++ back)
-  pub whole : (play setting lines before front).whole ≡ true
+  pub whole : (play fill lines before front).whole ≡ true

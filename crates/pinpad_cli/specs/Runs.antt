@@ -1,8 +1,8 @@
 -- The steps of a script, and the text of a run.
 use Rattle.std.specs.Prelude.{Bool, List, None, Option, Some, [], false, is_none, length, true, ℕ, ◌++◌, ◌∷◌}
 use Rattle.flat_machine.specs.Machine.{Act, lines_from, next, next_work}
+use Rattle.flat_machine.specs.Standard.{standard_setting}
 use Rattle.flat_machine.specs.State.{Flat, Public, ready_opening}
-use Rattle.flat_machine.specs.Works.{Setting}
 use Rattle.pad_steps.specs.declared.steps.DiskWord.{DiskWord}
 use Rattle.pad_steps.specs.declared.steps.Step.{Step}
 use Rattle.pinpad_cli.specs.Script.{lines_of}
@@ -47,17 +47,18 @@ abbrev pub due_first : Option Step → Played → (Step → Played) → Played
 due_first None rest more = rest
 due_first (Some step) rest more = more step
 
-module _ (setting : Setting) where
+-- the run of this pad: its cipher and its PIN work are the standard ones, and its fill words are open
+module _ (fill : ℕ → ℕ) where
   -- a step, which takes the next word, and then the rest
   abbrev pub step_then : Step → Player → Player
   step_then step rest state [] = stopped
-  step_then step rest state (word ∷ words) = with_acts (record { step = step; word = word } ∷ []) (rest (next setting state step word).state words)
+  step_then step rest state (word ∷ words) = with_acts (record { step = step; word = word } ∷ []) (rest (next (standard_setting fill) state step word).state words)
 
   -- the steps that are due, each of which takes a word, until none is, and then the rest
   abbrev pub auto_then : Player → Player
   auto_then rest state [] = unless_due (next_work state.public) (rest state [])
   auto_then rest state (word ∷ words) = due_first (next_work state.public) (rest state (word ∷ words))
-      (λ step. with_acts (record { step = step; word = word } ∷ []) (auto_then rest (next setting state step word).state words))
+      (λ step. with_acts (record { step = step; word = word } ∷ []) (auto_then rest (next (standard_setting fill) state step word).state words))
 
   -- a line, and then the rest
   abbrev pub line_then : Line → Player → Player
@@ -88,7 +89,7 @@ module _ (setting : Setting) where
 
   -- the printed text of a run from a state
   abbrev pub text_from : Flat → List Act → List ℕ
-  text_from state acts = lines_text (lines_from setting state acts)
+  text_from state acts = lines_text (lines_from (standard_setting fill) state acts)
 
   -- the printed text of a run from the opening state
   abbrev pub text_of : List Act → List ℕ

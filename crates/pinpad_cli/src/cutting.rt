@@ -6,7 +6,7 @@ ghost use Rattle.pinpad_cli.specs.Script.{is_feedless, lines_of, lines_of_pieces
 
 use crate::reading::LONGEST_SCRIPT;
 use pad_words::NoMemory;
-use script_lang::{Line, read_line};
+use script_lang::{Line, LineFault, read_line};
 use std::alloc::Global;
 
 /// The lines of a script. None where it is too long, a line is outside the grammar or the last is not ended.
@@ -37,7 +37,7 @@ fn cut(alloc: Global, script: &[u8]) -> Result<Option<Vec<Line>>, NoMemory>
     let mut lines = Vec::new(alloc);
     let mut at = 0;
     while at < script.len() {
-        match first_line(&script[at..]) {
+        match first_line(alloc, &script[at..])? {
             None => return Ok(None),
             Some((line, length)) => {
                 add(&mut lines, line)?;
@@ -49,21 +49,22 @@ fn cut(alloc: Global, script: &[u8]) -> Result<Option<Vec<Line>>, NoMemory>
 }
 
 // The first line, and how many bytes it takes with its line feed. None where it has no feed or is outside the grammar.
-fn first_line(rest: &[u8]) -> Option<(Line, usize)>
+fn first_line(alloc: Global, rest: &[u8]) -> Result<Option<(Line, usize)>, NoMemory>
     requires { 0 < length rest.now }
-    ensures found { IfSome result (λ first. lines_of_pieces (pieces_of rest.now) ≡ with_line (Some first.0) (lines_of_pieces (pieces_of (drop first.1 rest.now)))) }
-    ensures some { IfSome result (λ first. 0 < first.1) }
-    ensures within { IfSome result (λ first. first.1 ≤ length rest.now) }
-    ensures built { IfSome result (λ first. IsBuilt first.0) }
-    ensures outside { IfNone result (lines_of_pieces (pieces_of rest.now) ≡ None) }
+    ensures found { IfOk result (λ found. IfSome found (λ first. lines_of_pieces (pieces_of rest.now) ≡ with_line (Some first.0) (lines_of_pieces (pieces_of (drop first.1 rest.now))))) }
+    ensures some { IfOk result (λ found. IfSome found (λ first. 0 < first.1)) }
+    ensures within { IfOk result (λ found. IfSome found (λ first. first.1 ≤ length rest.now)) }
+    ensures built { IfOk result (λ found. IfSome found (λ first. IsBuilt first.0)) }
+    ensures outside { IfOk result (λ found. IfNone found (lines_of_pieces (pieces_of rest.now) ≡ None)) }
 {
     let end = feed_place(rest);
     if end == rest.len() {
-        return None;
+        return Ok(None);
     }
-    match read_line(&rest[..end]) {
-        Ok(line) => Some((line, end + 1)),
-        Err(_) => None,
+    match read_line(alloc, &rest[..end]) {
+        Ok(line) => Ok(Some((line, end + 1))),
+        Err(LineFault::Outside) => Ok(None),
+        Err(LineFault::NoMemory) => Err(NoMemory),
     }
 }
 

@@ -1,10 +1,9 @@
 // A script run line by line, and printed.
-ghost use Rattle.std.specs.Prelude.{◌≡◌, ◌<◌, ◌≤◌, ◌+◌, ◌-◌, ◌^◌, All, IfErr, IfNone, IsTrue, OnErr, OnOk, OnSome, Some, [], false, length, take, true};
+ghost use Rattle.std.specs.Prelude.{◌≡◌, ◌<◌, ◌≤◌, ◌+◌, ◌-◌, ◌^◌, All, IfErr, IfNone, IsTrue, OnErr, OnOk, OnSome, Some, [], false, length, take, true, ℕ};
 ghost use Rattle.disk_core.specs.Causes.{Rose};
 ghost use Rattle.disk_core.specs.CountedSinks.{counted_given, counted_faults};
 ghost use Rattle.flat_machine.specs.Machine.{next_work};
 ghost use Rattle.flat_machine.specs.State.{Flat, is_off};
-ghost use Rattle.flat_machine.specs.Works.{Setting};
 ghost use Rattle.pad_machine.specs.Stands.{StandsFor, draws, work_left};
 ghost use Rattle.pad_steps.specs.Formed.{is_well_formed};
 ghost use Rattle.pinpad_cli.specs.Cuts.{IsBuilt};
@@ -44,14 +43,14 @@ pub fn run_step<K: Sink>(
 ) -> Result<(), Break>
     requires formed { IsTrue (is_well_formed step.now) }
     requires ids { length pad.old.public.requests < 2 ^ 32 - 2 }
-    ensures ran { OnOk result ((setting : Setting) (state : Flat) (rest : Player) → StandsFor pad.old state →
-        Ran setting state (step_then setting step.now rest) rest pad.new words.old.items words.new.items (counted_given K.given sink.old) (counted_given K.given sink.new)) }
-    ensures broke { OnErr result ((setting : Setting) (state : Flat) (rest : Player) → StandsFor pad.old state →
-        BrokeOff setting state (step_then setting step.now rest) words.old.items words.new.items (counted_given K.given sink.old) (counted_given K.given sink.new)) }
+    ensures ran { OnOk result ((fill : ℕ → ℕ) (state : Flat) (rest : Player) → StandsFor pad.old state →
+        Ran fill state (step_then fill step.now rest) rest pad.new words.old.items words.new.items (counted_given K.given sink.old) (counted_given K.given sink.new)) }
+    ensures broke { OnErr result ((fill : ℕ → ℕ) (state : Flat) (rest : Player) → StandsFor pad.old state →
+        BrokeOff fill state (step_then fill step.now rest) words.old.items words.new.items (counted_given K.given sink.old) (counted_given K.given sink.new)) }
     ensures later { counted_faults K.faults sink.old ≤ counted_faults K.faults sink.new }
     ensures cause { IfErr result (λ stop. stop.fault ≡ Fault.Failed → Rose (counted_faults K.faults sink.old) (counted_faults K.faults sink.new)) }
-    ensures taken { IfErr result (λ stop. stop.taken ≡ true → (setting : Setting) (state : Flat) (rest : Player) → StandsFor pad.old state →
-        Took setting state (step_then setting step.now rest) rest pad.new words.old.items words.new.items) }
+    ensures taken { IfErr result (λ stop. stop.taken ≡ true → (fill : ℕ → ℕ) (state : Flat) (rest : Player) → StandsFor pad.old state →
+        Took fill state (step_then fill step.now rest) rest pad.new words.old.items words.new.items) }
     ensures less { OnOk result (is_off pad.old.public.device ≡ false → next_work pad.old.public ≡ Some step.now → work_left pad.new.public.requests < work_left pad.old.public.requests) }
     ensures ids { OnOk result (length pad.new.public.requests ≤ length pad.old.public.requests + draws step.now) }
 {
@@ -99,14 +98,14 @@ pub fn run_auto<K: Sink>(
     sink: &mut Counted<K>,
 ) -> Result<(), Break>
     requires ids { length pad.old.public.requests < 2 ^ 32 - 2 }
-    ensures ran { OnOk result ((setting : Setting) (state : Flat) (rest : Player) → StandsFor pad.old state →
-        Ran setting state (auto_then setting rest) rest pad.new words.old.items words.new.items (counted_given K.given sink.old) (counted_given K.given sink.new)) }
-    ensures broke { OnErr result ((setting : Setting) (state : Flat) (rest : Player) → StandsFor pad.old state →
-        BrokeOff setting state (auto_then setting rest) words.old.items words.new.items (counted_given K.given sink.old) (counted_given K.given sink.new)) }
+    ensures ran { OnOk result ((fill : ℕ → ℕ) (state : Flat) (rest : Player) → StandsFor pad.old state →
+        Ran fill state (auto_then fill rest) rest pad.new words.old.items words.new.items (counted_given K.given sink.old) (counted_given K.given sink.new)) }
+    ensures broke { OnErr result ((fill : ℕ → ℕ) (state : Flat) (rest : Player) → StandsFor pad.old state →
+        BrokeOff fill state (auto_then fill rest) words.old.items words.new.items (counted_given K.given sink.old) (counted_given K.given sink.new)) }
     ensures later { counted_faults K.faults sink.old ≤ counted_faults K.faults sink.new }
     ensures cause { IfErr result (λ stop. stop.fault ≡ Fault.Failed → Rose (counted_faults K.faults sink.old) (counted_faults K.faults sink.new)) }
-    ensures taken { IfErr result (λ stop. stop.taken ≡ true → (setting : Setting) (state : Flat) (rest : Player) → StandsFor pad.old state →
-        Took setting state (auto_then setting rest) (auto_then setting rest) pad.new words.old.items words.new.items) }
+    ensures taken { IfErr result (λ stop. stop.taken ≡ true → (fill : ℕ → ℕ) (state : Flat) (rest : Player) → StandsFor pad.old state →
+        Took fill state (auto_then fill rest) (auto_then fill rest) pad.new words.old.items words.new.items) }
     ensures ids { OnOk result (length pad.new.public.requests ≤ length pad.old.public.requests) }
 {
     while let Some(step) = pad.next_work() {
@@ -128,14 +127,14 @@ pub fn run_line<K: Sink>(
 ) -> Result<(), Break>
     requires built { IsBuilt line.now }
     requires ids { length pad.old.public.requests < 2 ^ 32 - 2 }
-    ensures ran { OnOk result ((setting : Setting) (state : Flat) (rest : Player) → StandsFor pad.old state →
-        Ran setting state (line_then setting line.now rest) rest pad.new words.old.items words.new.items (counted_given K.given sink.old) (counted_given K.given sink.new)) }
-    ensures broke { OnErr result ((setting : Setting) (state : Flat) (rest : Player) → StandsFor pad.old state →
-        BrokeOff setting state (line_then setting line.now rest) words.old.items words.new.items (counted_given K.given sink.old) (counted_given K.given sink.new)) }
+    ensures ran { OnOk result ((fill : ℕ → ℕ) (state : Flat) (rest : Player) → StandsFor pad.old state →
+        Ran fill state (line_then fill line.now rest) rest pad.new words.old.items words.new.items (counted_given K.given sink.old) (counted_given K.given sink.new)) }
+    ensures broke { OnErr result ((fill : ℕ → ℕ) (state : Flat) (rest : Player) → StandsFor pad.old state →
+        BrokeOff fill state (line_then fill line.now rest) words.old.items words.new.items (counted_given K.given sink.old) (counted_given K.given sink.new)) }
     ensures later { counted_faults K.faults sink.old ≤ counted_faults K.faults sink.new }
     ensures cause { IfErr result (λ stop. stop.fault ≡ Fault.Failed → Rose (counted_faults K.faults sink.old) (counted_faults K.faults sink.new)) }
-    ensures taken { IfErr result (λ stop. stop.taken ≡ true → is_over line.now pad.new.public ≡ true → (setting : Setting) (state : Flat) (rest : Player) → StandsFor pad.old state →
-        Took setting state (line_then setting line.now rest) rest pad.new words.old.items words.new.items) }
+    ensures taken { IfErr result (λ stop. stop.taken ≡ true → is_over line.now pad.new.public ≡ true → (fill : ℕ → ℕ) (state : Flat) (rest : Player) → StandsFor pad.old state →
+        Took fill state (line_then fill line.now rest) rest pad.new words.old.items words.new.items) }
     ensures ids { OnOk result (length pad.new.public.requests ≤ length pad.old.public.requests + 1) }
 {
     match line {
@@ -162,12 +161,12 @@ pub fn run_lines<K: Sink>(
     requires built { All IsBuilt lines.now }
     requires fresh { pad.old.public.requests ≡ [] }
     requires few { length lines.now ≤ 1048576 }
-    ensures ran { IfNone result.fault ((setting : Setting) (state : Flat) → StandsFor pad.old state →
-        Ran setting state (play setting lines.now) (play setting []) pad.new words.old.items words.new.items (counted_given K.given sink.old) (counted_given K.given sink.new)) }
-    ensures broke { OnSome result.fault ((setting : Setting) (state : Flat) → StandsFor pad.old state →
-        BrokeOff setting state (play setting lines.now) words.old.items words.new.items (counted_given K.given sink.old) (counted_given K.given sink.new)) }
+    ensures ran { IfNone result.fault ((fill : ℕ → ℕ) (state : Flat) → StandsFor pad.old state →
+        Ran fill state (play fill lines.now) (play fill []) pad.new words.old.items words.new.items (counted_given K.given sink.old) (counted_given K.given sink.new)) }
+    ensures broke { OnSome result.fault ((fill : ℕ → ℕ) (state : Flat) → StandsFor pad.old state →
+        BrokeOff fill state (play fill lines.now) words.old.items words.new.items (counted_given K.given sink.old) (counted_given K.given sink.new)) }
     ensures lines { result.lines ≤ length lines.now }
-    ensures front { (setting : Setting) (state : Flat) → StandsFor pad.old state → PlaysFront setting state (take result.lines lines.now) words.old.items words.new.items }
+    ensures front { (fill : ℕ → ℕ) (state : Flat) → StandsFor pad.old state → PlaysFront fill state (take result.lines lines.now) words.old.items words.new.items }
     ensures all { IfNone result.fault (result.lines ≡ length lines.now) }
     ensures later { counted_faults K.faults sink.old ≤ counted_faults K.faults sink.new }
     ensures cause { result.fault ≡ Some Fault.Failed → Rose (counted_faults K.faults sink.old) (counted_faults K.faults sink.new) }

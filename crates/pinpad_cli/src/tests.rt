@@ -1,4 +1,6 @@
 //! Whole runs, and what no clause says: that memory suffices.
+mod blocks;
+
 use crate::top::run_pinpad;
 use disk_core::{Calls, Counted, MemSink, MemSource, Source};
 use pad_steps::{Command, DiskWord, ImportRequest, ImportSource, Out, Outs, Told, Verify, Words};

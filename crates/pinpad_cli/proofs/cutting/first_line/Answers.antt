@@ -12,7 +12,7 @@ returns-in-Ok-clause-found c =
     let within : c.feed_place-end.result < length c.args.rest.now = omega (arith, c.feed_place-end.ensures.within, c.if-end-rest.false) in
     lines-first c.args.rest.now c.feed_place-end.result (Some c.in-Ok.line) c.feed_place-end.ensures.exact within c.in-Ok.ensures.exact
 
-pub returns-in-Err-clause-outside : goal.returns-in-Err-clause-outside
-returns-in-Err-clause-outside c =
+pub returns-in-Err-Outside-clause-outside : goal.returns-in-Err-Outside-clause-outside
+returns-in-Err-Outside-clause-outside c =
     let within : c.feed_place-end.result < length c.args.rest.now = omega (arith, c.feed_place-end.ensures.within, c.if-end-rest.false) in
-    lines-first c.args.rest.now c.feed_place-end.result None c.feed_place-end.ensures.exact within c.in-Err.ensures.exact
+    lines-first c.args.rest.now c.feed_place-end.result None c.feed_place-end.ensures.exact within (rw (c.in-Err-Outside.is, c.in-Err-Outside.field-0-is) at c.read_line.ensures.exact)

@@ -1,7 +1,6 @@
-use Rattle.std.proofs.Common.{length, ◌≤◌}
+use Rattle.std.proofs.Common.{length, ℕ, ◌≤◌}
 use Rattle.disk_core.specs.CountedSinks.{counted_faults, counted_given}
 use Rattle.flat_machine.specs.State.{Flat}
-use Rattle.flat_machine.specs.Works.{Setting}
 use Rattle.pad_machine.specs.Stands.{StandsFor, work_left}
 use Rattle.pinpad_cli.specs.Parts.{Ran}
 use Rattle.pinpad_cli.specs.Runs.{Player, auto_then}
@@ -9,7 +8,7 @@ use Rattle.pinpad_cli.proofs.running.run_auto.Given as goal
 
 abbrev pub invariant-loop-step : goal.invariant-loop-step
 invariant-loop-step g l = record {
-  ran : (set : Setting) (state : Flat) (rest : Player) → StandsFor l.fn.pad state → Ran set state (auto_then set rest) (auto_then set rest) l.pad l.fn.words.items l.words.items (counted_given g.K.Sink.given l.fn.sink) (counted_given g.K.Sink.given l.sink);
+  ran : (fill : ℕ → ℕ) (state : Flat) (rest : Player) → StandsFor l.fn.pad state → Ran fill state (auto_then fill rest) (auto_then fill rest) l.pad l.fn.words.items l.words.items (counted_given g.K.Sink.given l.fn.sink) (counted_given g.K.Sink.given l.sink);
   later : counted_faults g.K.Sink.faults l.fn.sink ≤ counted_faults g.K.Sink.faults l.sink;
   ids : length l.pad.public.requests ≤ length l.fn.pad.public.requests;
 }

@@ -1,7 +1,6 @@
-use Rattle.std.proofs.Common.{drop, length, take, ◌≡◌, ◌≤◌}
+use Rattle.std.proofs.Common.{drop, length, take, ℕ, ◌≡◌, ◌≤◌}
 use Rattle.disk_core.specs.CountedSinks.{counted_faults, counted_given}
 use Rattle.flat_machine.specs.State.{Flat}
-use Rattle.flat_machine.specs.Works.{Setting}
 use Rattle.pad_machine.specs.Stands.{StandsFor}
 use Rattle.pinpad_cli.specs.Parts.{Ran, Took}
 use Rattle.pinpad_cli.specs.Runs.{Player, play, play_then}
@@ -9,8 +8,8 @@ use Rattle.pinpad_cli.proofs.running.run_lines.Given as goal
 
 abbrev pub invariant-loop-line : goal.invariant-loop-line
 invariant-loop-line g l = record {
-  ran : (set : Setting) (state : Flat) → StandsFor l.fn.pad state → Ran set state (play set l.lines) (play set (drop l.line-index l.lines)) l.pad l.fn.words.items l.words.items (counted_given g.K.Sink.given l.fn.sink) (counted_given g.K.Sink.given l.sink);
-  took : (set : Setting) (state : Flat) (rest : Player) → StandsFor l.fn.pad state → Took set state (play_then set (take l.line-index l.lines) rest) rest l.pad l.fn.words.items l.words.items;
+  ran : (fill : ℕ → ℕ) (state : Flat) → StandsFor l.fn.pad state → Ran fill state (play fill l.lines) (play fill (drop l.line-index l.lines)) l.pad l.fn.words.items l.words.items (counted_given g.K.Sink.given l.fn.sink) (counted_given g.K.Sink.given l.sink);
+  took : (fill : ℕ → ℕ) (state : Flat) (rest : Player) → StandsFor l.fn.pad state → Took fill state (play_then fill (take l.line-index l.lines) rest) rest l.pad l.fn.words.items l.words.items;
   later : counted_faults g.K.Sink.faults l.fn.sink ≤ counted_faults g.K.Sink.faults l.sink;
   ids : length l.pad.public.requests ≤ l.line-index;
   count : l.count ≡ l.line-index;

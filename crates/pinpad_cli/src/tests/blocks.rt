@@ -1,0 +1,297 @@
+//! Keys and PIN blocks in whole runs.
+//!
+//! The encrypted blocks come from OpenSSL and its legacy provider:
+//! `printf 041215FEDCBA9876 | xxd -r -p | openssl enc -des-ecb -K 0000000000000000 -nopad -provider legacy -provider default | xxd -p`.
+use super::{Case, WHOLE, compare};
+use std::alloc::Global;
+use std::test::Fail;
+
+/// What session 1 does, and how it ends.
+#[derive(Clone, Copy)]
+enum Act<'t> {
+    /// A PIN is entered and held.
+    Enter(&'t str),
+    /// An entry is begun, and canceled after a digit.
+    Cancel,
+    /// A command is submitted and finished with this reply.
+    Do(&'t str, &'t str),
+}
+
+const ENTRY: &str = "getpin 4 16 hold 000F03FF00000000 0003000000000000";
+
+const IMPORT: Act<'static> = Act::Do("import PPK clear 0000000000000000 0002 none", "OK key -");
+
+const BLOCK: &str = "pinblock iso0 PPK - - 543210123456789 F";
+
+const BLOCK_OF_1234: Act<'static> = Act::Do(BLOCK, "OK block DFB4F453C786CCBB");
+
+/// A script and what is printed of it, made act by act.
+#[derive(Drop)]
+struct Play {
+    alloc: Global,
+    script: String,
+    printed: String,
+    lines: u32,
+    steps: usize,
+    requests: u32,
+}
+
+impl Play {
+    /// Session 1 is open.
+    fn open(alloc: Global) -> Result<Play, Fail> {
+        let mut play = Play {
+            alloc,
+            script: String::new(alloc),
+            printed: String::new(alloc),
+            lines: 0,
+            steps: 0,
+            requests: 0,
+        };
+        play.step("open 1", "open 1")?;
+        play.said("told open")?;
+        Ok(play)
+    }
+
+    fn line(&mut self, line: &str) -> Result<(), Fail> {
+        self.lines = self.lines.saturating_add(1);
+        self.script.push_str(line)?;
+        self.script.push_str("\n")?;
+        Ok(())
+    }
+
+    fn taken(&mut self, shown: &str) -> Result<(), Fail> {
+        self.steps = self.steps.saturating_add(1);
+        self.printed.push_str("> ")?;
+        self.printed.push_str(shown)?;
+        self.printed.push_str("\n")?;
+        Ok(())
+    }
+
+    fn step(&mut self, line: &str, shown: &str) -> Result<(), Fail> {
+        self.line(line)?;
+        self.taken(shown)
+    }
+
+    fn said(&mut self, text: &str) -> Result<(), Fail> {
+        self.printed.push_str("< 1 ")?;
+        self.printed.push_str(text)?;
+        self.printed.push_str("\n")?;
+        Ok(())
+    }
+
+    fn act(&mut self, act: Act) -> Result<(), Fail> {
+        match act {
+            Act::Enter(pin) => self.enter(pin),
+            Act::Cancel => self.cancel(),
+            Act::Do(command, reply) => self.finish(command, reply),
+        }
+    }
+
+    fn submit(&mut self, command: &str) -> Result<(), Fail> {
+        self.requests = self.requests.saturating_add(1);
+        let line = format!(in self.alloc; "submit 1 0 {command}")?;
+        let said = format!(in self.alloc; "request {}", self.requests)?;
+        self.step(line.as_str(), line.as_str())?;
+        self.said(said.as_str())?;
+        self.line("auto")?;
+        self.taken("begin")
+    }
+
+    fn ended(&mut self, reply: &str) -> Result<(), Fail> {
+        let said = format!(in self.alloc; "ended {} {reply}", self.requests)?;
+        self.said(said.as_str())
+    }
+
+    fn enter(&mut self, pin: &str) -> Result<(), Fail> {
+        self.submit(ENTRY)?;
+        for digit in pin.chars() {
+            let line = format!(in self.alloc; "press {digit}")?;
+            self.step(line.as_str(), "press *")?;
+        }
+        self.step("press enter", "press enter")?;
+        let reply = format!(in self.alloc; "OK entered {} enter", pin.len())?;
+        self.ended(reply.as_str())
+    }
+
+    fn cancel(&mut self) -> Result<(), Fail> {
+        self.submit(ENTRY)?;
+        self.step("press 7", "press *")?;
+        self.step("press cancel", "press cancel")?;
+        self.ended("OK entered 0 cancel")
+    }
+
+    fn finish(&mut self, command: &str, reply: &str) -> Result<(), Fail> {
+        self.submit(command)?;
+        self.taken("finish")?;
+        self.ended(reply)
+    }
+
+    fn case(&self, name: &'static str) -> Case<'_, '_> {
+        Case {
+            name,
+            script: self.script.as_bytes(),
+            line: self.lines,
+            steps: self.steps,
+            printed: self.printed.as_bytes(),
+            ..WHOLE
+        }
+    }
+}
+
+#[test]
+fn keys_and_blocks(rt: HostRuntime) -> Result<(), Fail> {
+    let alloc = rt.alloc();
+    let rows: [(&str, &[Act]); 9] = [
+        (
+            "a block uses the PIN up",
+            &[
+                IMPORT,
+                Act::Enter("1234"),
+                BLOCK_OF_1234,
+                Act::Do(BLOCK, "NOPIN"),
+            ],
+        ),
+        (
+            "an absent key keeps the PIN",
+            &[
+                IMPORT,
+                Act::Enter("1234"),
+                Act::Do("pinblock iso0 PPL - - 543210123456789 F", "KEYNOTFOUND"),
+                BLOCK_OF_1234,
+            ],
+        ),
+        (
+            "13 digits are too many, and stay",
+            &[
+                IMPORT,
+                Act::Enter("1234567890123"),
+                Act::Do(BLOCK, "LENGTHERROR"),
+                Act::Do(BLOCK, "LENGTHERROR"),
+                Act::Enter("1234"),
+                BLOCK_OF_1234,
+            ],
+        ),
+        (
+            "12 digits, of a PAN of 19",
+            &[
+                IMPORT,
+                Act::Enter("123456789012"),
+                Act::Do(
+                    "pinblock iso0 PPK - - 1111543210123456789 0",
+                    "OK block 833285ED4AF1E0B3",
+                ),
+            ],
+        ),
+        (
+            "four zeros are a PIN",
+            &[
+                IMPORT,
+                Act::Enter("0000"),
+                Act::Do(BLOCK, "OK block 3AC0B3D402438298"),
+            ],
+        ),
+        (
+            "the key comes before the PIN",
+            &[
+                Act::Do(BLOCK, "KEYNOTFOUND"),
+                IMPORT,
+                Act::Do(BLOCK, "NOPIN"),
+            ],
+        ),
+        (
+            "an entry that starts drops the PIN",
+            &[
+                IMPORT,
+                Act::Enter("1234"),
+                Act::Cancel,
+                Act::Do(BLOCK, "NOPIN"),
+            ],
+        ),
+        (
+            "a present name gets the new key",
+            &[
+                IMPORT,
+                Act::Do("import PPK clear 133457799BBCDFF1 0002 none", "OK key -"),
+                Act::Enter("1234"),
+                Act::Do(BLOCK, "OK block 3DDA55198A4398D8"),
+            ],
+        ),
+        (
+            "the key and the PIN stand beside the padding nibble",
+            &[
+                Act::Do("import A_9 clear 133457799BBCDFF1 0002 none", "OK key -"),
+                IMPORT,
+                Act::Enter("1234"),
+                Act::Do(
+                    "pinblock iso0 A_9 - - 543210123456789 A",
+                    "OK block 3DDA55198A4398D8",
+                ),
+            ],
+        ),
+    ];
+    for (name, acts) in rows {
+        let mut play = Play::open(alloc)?;
+        for act in acts {
+            play.act(*act)?;
+        }
+        compare(&rt, alloc, &play.case(name))?;
+    }
+    Ok(())
+}
+
+// 64 keys are kept, and a 65th name is refused; a name that is there gets its new key, and each name finds its own.
+#[test]
+fn table_fills_up(rt: HostRuntime) -> Result<(), Fail> {
+    let alloc = rt.alloc();
+    let mut play = Play::open(alloc)?;
+    for number in 1..=64 {
+        let command = format!(in alloc; "import K{number} clear 0000000000000000 0002 none")?;
+        play.act(Act::Do(command.as_str(), "OK key -"))?;
+    }
+    let rest = [
+        Act::Do("import K65 clear 133457799BBCDFF1 0002 none", "TABLEFULL"),
+        Act::Do("import K33 clear 133457799BBCDFF1 0002 none", "OK key -"),
+        Act::Enter("1234"),
+        Act::Do("pinblock iso0 K65 - - 543210123456789 F", "KEYNOTFOUND"),
+        Act::Do(
+            "pinblock iso0 K33 - - 543210123456789 F",
+            "OK block 3DDA55198A4398D8",
+        ),
+        Act::Enter("1234"),
+        Act::Do(
+            "pinblock iso0 K64 - - 543210123456789 F",
+            "OK block DFB4F453C786CCBB",
+        ),
+    ];
+    for act in rest {
+        play.act(act)?;
+    }
+    compare(&rt, alloc, &play.case("65 names"))
+}
+
+// A key, a PIN that no block uses, and one that a block uses.
+fn block_after(alloc: Global, unused: &str, used: &str, block: Act) -> Result<Play, Fail> {
+    let mut play = Play::open(alloc)?;
+    play.act(IMPORT)?;
+    play.act(Act::Enter(unused))?;
+    play.act(Act::Enter(used))?;
+    play.act(block)?;
+    Ok(play)
+}
+
+// Runs that differ in a PIN that no block used print the same, and those that differ in a used one do not.
+#[test]
+fn twins(rt: HostRuntime) -> Result<(), Fail> {
+    let alloc = rt.alloc();
+    let other_block = Act::Do(BLOCK, "OK block 1A9BE9232BE84EF7");
+    let first = block_after(alloc, "1111", "1234", BLOCK_OF_1234)?;
+    let twin = block_after(alloc, "9876", "1234", BLOCK_OF_1234)?;
+    let other = block_after(alloc, "1111", "1235", other_block)?;
+    compare(&rt, alloc, &first.case("a PIN and its block"))?;
+    compare(&rt, alloc, &twin.case("another unused PIN"))?;
+    compare(&rt, alloc, &other.case("another used PIN"))?;
+    let printed = first.printed.as_bytes();
+    assert!(rt; twin.printed.as_bytes() == printed);
+    assert!(rt; other.printed.as_bytes() != printed);
+    Ok(())
+}
