@@ -1,4 +1,6 @@
 -- Steps that a line of the script spells, as far as lines are built.
+use Rattle.key_attributes.specs.UseBits.{allows, forbids_duplicates, uses_valid}
+use Rattle.key_attributes.specs.declared.Use.TheVariants as purpose
 use Rattle.key_source.specs.declared.Key.{Key}
 use Rattle.key_source.specs.declared.Key.TheVariants as keypad
 use Rattle.key_source.specs.declared.Mask.{Mask}
@@ -6,6 +8,7 @@ use Rattle.pad_steps.specs.Accounts.{is_pan}
 use Rattle.pad_steps.specs.declared.commands.BlockRequest.{BlockRequest}
 use Rattle.pad_steps.specs.declared.commands.Command.{Command}
 use Rattle.pad_steps.specs.declared.commands.Command.TheVariants as command
+use Rattle.pad_steps.specs.declared.commands.CryptRequest.{CryptRequest}
 use Rattle.pad_steps.specs.declared.commands.EntryRules.{EntryRules}
 use Rattle.pad_steps.specs.declared.commands.Form.{Form}
 use Rattle.pad_steps.specs.declared.commands.Form.TheVariants as forms
@@ -14,12 +17,15 @@ use Rattle.pad_steps.specs.declared.commands.ImportSource.{ImportSource}
 use Rattle.pad_steps.specs.declared.commands.ImportSource.TheVariants as origin
 use Rattle.pad_steps.specs.declared.commands.PinRequest.{PinRequest}
 use Rattle.pad_steps.specs.declared.commands.PinRequest.TheVariants as pin
+use Rattle.pad_steps.specs.declared.commands.Start.{Start}
+use Rattle.pad_steps.specs.declared.commands.Start.TheVariants as started
 use Rattle.pad_steps.specs.declared.commands.Verify.{Verify}
 use Rattle.pad_steps.specs.declared.commands.Verify.TheVariants as verify
 use Rattle.pad_steps.specs.declared.steps.Classes.{Classes}
 use Rattle.pad_steps.specs.declared.steps.Step.{Step}
 use Rattle.pad_steps.specs.declared.steps.Step.TheVariants as step
 use Rattle.pad_words.specs.Names.{is_key_name}
+use Rattle.pad_words.specs.declared.bytes.Block.{Block}
 use Rattle.pad_words.specs.declared.numbers.Session.{Session}
 use Rattle.std.specs.List.{list_all}
 use Rattle.std.specs.Prelude.{Bool, List, false, is_none, length, nat_le, nat_lt, not, true, ℕ, ◌&&◌, ◌==◌, ◌||◌}
@@ -73,9 +79,13 @@ is_built_pin (pin.Extra request) = false
 abbrev pub all_bytes : List ℕ → Bool
 all_bytes values = list_all (λ value. nat_lt value 256) values
 
--- eight bytes in clear
+-- 8, 16 or 24 bytes: a DES key, or a triple DES key of two or three parts (FIPS 46-3)
+abbrev pub is_key_length : ℕ → Bool
+is_key_length size = (size == 8) || (size == 16) || (size == 24)
+
+-- a key in clear
 abbrev pub is_built_source : ImportSource → Bool
-is_built_source (origin.Clear value) = (length value == 8) && all_bytes value
+is_built_source (origin.Clear value) = is_key_length (length value) && all_bytes value
 is_built_source (origin.Sealed name value) = false
 is_built_source origin.Part = false
 
@@ -85,9 +95,27 @@ is_unchecked verify.Nothing = true
 is_unchecked verify.Own = false
 is_unchecked verify.Zero = false
 
--- the import that a line may ask for: eight bytes in clear for FUNCTION alone, without a check value
+-- one or more of CRYPT, FUNCTION, MACING and SVENCKEY, and nothing else
+abbrev pub is_built_uses : ℕ → Bool
+is_built_uses uses = uses_valid uses && nat_lt uses 64 && not (allows uses purpose.KeyEncKey) && not (forbids_duplicates uses)
+
+-- the import that a line may ask for: a key in clear, without a check value
 abbrev pub is_built_import : ImportRequest → Bool
-is_built_import request = is_key_name request.name && is_built_source request.source && (request.uses == 0x0002) && is_unchecked request.verify
+is_built_import request = is_key_name request.name && is_built_source request.source && is_built_uses request.uses && is_unchecked request.verify
+
+-- eight bytes
+abbrev pub is_block : Block → Bool
+is_block block = (length block.0 == 8) && all_bytes block.0
+
+-- none, or a block in clear or sealed under a key
+abbrev pub is_built_start : Start → Bool
+is_built_start started.Zero = true
+is_built_start (started.Clear block) = is_block block
+is_built_start (started.Sealed name block) = is_key_name name && is_block block
+
+-- what CRYPT may be asked for: any algorithm, start value and padding byte, and at most 1,024 bytes
+abbrev pub is_built_crypt : CryptRequest → Bool
+is_built_crypt request = is_key_name request.key && is_built_start request.start && nat_lt request.pad 256 && nat_le (length request.body) 1024 && all_bytes request.body
 
 -- a command that a line spells
 abbrev pub is_well_formed_command : Command → Bool
@@ -96,7 +124,7 @@ is_well_formed_command (command.GetData rules) = false
 is_well_formed_command (command.SecureKeyEntry rules) = false
 is_well_formed_command (command.MaintainPin on) = false
 is_well_formed_command (command.Pin request) = is_built_pin request
-is_well_formed_command (command.Crypt request) = false
+is_well_formed_command (command.Crypt request) = is_built_crypt request
 is_well_formed_command (command.ImportKey request) = is_built_import request
 is_well_formed_command (command.DeleteKey name) = false
 is_well_formed_command command.Init = false

@@ -1,15 +1,17 @@
 //! Which steps and commands a line of the script spells, as far as lines are built.
-ghost use Rattle.std.specs.Prelude.{◌≡◌, ◌==◌, ◌&&◌, length};
+ghost use Rattle.std.specs.Prelude.{◌≡◌, ◌&&◌, length, nat_le, nat_lt};
 ghost use Rattle.pad_words.specs.Names.{is_key_name};
-ghost use Rattle.pad_steps.specs.Formed.{all_bytes, is_built_block, is_built_entry, is_built_import, is_built_key, is_built_pin, is_built_session, is_built_source, is_execute_alone, is_scripted, is_well_formed, is_well_formed_command, same_mask};
+ghost use Rattle.pad_steps.specs.Formed.{all_bytes, is_block, is_built_block, is_built_crypt, is_built_entry, is_built_import, is_built_key, is_built_pin, is_built_session, is_built_source, is_built_start, is_built_uses, is_execute_alone, is_key_length, is_scripted, is_well_formed, is_well_formed_command, same_mask};
 
 use crate::accounts::is_pan;
 use crate::commands::{
-    BlockRequest, Command, EntryRules, Form, ImportRequest, ImportSource, PinRequest, Verify,
+    BlockRequest, Command, CryptRequest, EntryRules, Form, ImportRequest, ImportSource, PinRequest,
+    Start, Verify,
 };
 use crate::steps::{Classes, Step};
+use key_attributes::{Use, Uses};
 use key_source::{Key, Mask};
-use pad_words::{KeyName, Session};
+use pad_words::{Block, KeyName, Session};
 
 /// Digits, ENTER, CANCEL, CLEAR and BACKSPACE: key bits 0 to 9 and 16 to 19.
 const ENTRY_KEYS: Mask = Mask {
@@ -84,31 +86,92 @@ fn built_pin(request: &PinRequest) -> bool
     }
 }
 
-// eight bytes: their type says what a byte may be
-fn are_eight_bytes(values: &[u8]) -> bool
-    ensures { result ≡ (length values.now == 8) && all_bytes values.now }
+// bytes: their type says what a byte may be
+fn are_bytes(values: &[u8]) -> bool
+    ensures { result ≡ all_bytes values.now }
 {
-    values.len() == 8
+    let _ = values;
+    true
 }
 
-// eight bytes in clear
+// a byte: its type says so
+fn is_byte(value: u8) -> bool
+    ensures { result ≡ nat_lt value 256 }
+{
+    let _ = value;
+    true
+}
+
+// 8, 16 or 24 bytes
+fn key_bytes(values: &[u8]) -> bool
+    ensures { result ≡ is_key_length (length values.now) && all_bytes values.now }
+{
+    matches!(values.len(), 8 | 16 | 24) && are_bytes(values)
+}
+
+// a key in clear
 fn built_source(source: &ImportSource) -> bool
     ensures { result ≡ is_built_source source.now }
 {
     match source {
-        ImportSource::Clear(value) => are_eight_bytes(value.items()),
+        ImportSource::Clear(value) => key_bytes(value.items()),
         ImportSource::Sealed(_, _) | ImportSource::Part => false,
     }
 }
 
-// eight bytes in clear for FUNCTION alone, without a check value
+// one or more of CRYPT, FUNCTION, MACING and SVENCKEY, and nothing else
+fn built_uses(bits: u16) -> bool
+    ensures { result ≡ is_built_uses bits }
+{
+    match Uses::from_bits(bits) {
+        Some(uses) => bits < 64 && !uses.allows(Use::KeyEncKey) && !uses.forbids_duplicates(),
+        None => false,
+    }
+}
+
+// a key in clear, without a check value
 fn built_import(request: &ImportRequest) -> bool
     ensures { result ≡ is_built_import request.now }
 {
     is_named(&request.name)
         && built_source(&request.source)
-        && request.uses == 0x0002
+        && built_uses(request.uses)
         && request.verify == Verify::Nothing
+}
+
+// eight bytes: its type says so
+fn is_whole(block: &Block) -> bool
+    ensures { result ≡ is_block block.now }
+{
+    are_bytes(&block.0)
+}
+
+// none, or a block in clear or sealed under a key
+fn built_start(start: &Start) -> bool
+    ensures { result ≡ is_built_start start.now }
+{
+    match start {
+        Start::Zero => true,
+        Start::Clear(block) => is_whole(block),
+        Start::Sealed(name, block) => is_named(name) && is_whole(block),
+    }
+}
+
+// at most 1,024 bytes
+fn built_body(values: &[u8]) -> bool
+    ensures { result ≡ nat_le (length values.now) 1024 && all_bytes values.now }
+{
+    values.len() <= 1024 && are_bytes(values)
+}
+
+// any algorithm, start value and padding byte, and at most 1,024 bytes
+fn built_crypt(request: &CryptRequest) -> bool
+    ensures { result ≡ is_built_crypt request.now }
+{
+    is_named(&request.key)
+        && built_start(&request.start)
+        && is_byte(request.pad)
+        && built_body(request.body.items())
 }
 
 // a digit, ENTER, CANCEL, CLEAR or BACKSPACE
@@ -129,6 +192,7 @@ impl Command {
         match self {
             Command::GetPin(rules) => built_entry(rules),
             Command::Pin(request) => built_pin(request),
+            Command::Crypt(request) => built_crypt(request),
             Command::ImportKey(request) => built_import(request),
             _ => false,
         }

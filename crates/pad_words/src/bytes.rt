@@ -31,6 +31,13 @@ impl Octets {
         }
     }
 
+    /// These bytes.
+    pub fn of(bytes: Vec<u8>) -> Octets
+        ensures { result ≡ bytes.items }
+    {
+        Octets { bytes }
+    }
+
     /// A copy of these bytes.
     pub fn copy(alloc: Global, bytes: &[u8]) -> Result<Octets, NoMemory>
         ensures { IfOk result (λ o. o ≡ bytes.now) }
