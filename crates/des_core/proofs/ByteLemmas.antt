@@ -4,6 +4,8 @@ use Rattle.std.specs.Int.{bit_at, byte_at, bytes_high_first, from_be_bytes, w64}
 use Rattle.std.proofs.lemmas.Nat.{mod-pow-add, pow-add, xor_lt}
 use Rattle.std.proofs.lemmas.Nat.Bits.{bit_at-lt}
 use Rattle.std.proofs.lemmas.List.{take_more, append_assoc, append-nil, take_all, take_at, drop_at, length-append, length-take-le, length-drop, take-append-drop, nil_from_length}
+use Rattle.std.specs.List.{All}
+use Rattle.std.proofs.lemmas.List.Elements.{All-nil, All-cons}
 use Rattle.std.proofs.Math.Nat.{pow-suc, div-one, add-mul}
 use Rattle.des_core.specs.Bits.{bits_of, number_from, number_of, bits_of_bytes, bytes_of_bits, exclusive_or}
 use Rattle.des_core.proofs.BitLemmas.{length-bits_of, take-bits_of, drop-bits_of, bits_of-beside, bits_of-one}
@@ -171,3 +173,34 @@ bytes_of_bits-bits_of_bytes (x ∷ xs) (suc k) long small =
     let value : number_of (bits_of 8 x) ≡ x = number_of-bits_of 8 x ∙ mod-eq_of_lt (small 0) in
     let rest = bytes_of_bits-bits_of_bytes xs k (omega arith) (λ i. small (suc i)) in
     rw (take_at (bits_of 8 x) (bits_of_bytes xs) 8 eight, drop_at (bits_of 8 x) (bits_of_bytes xs) 8 eight, value, rest) refl
+
+number_from-lt : (bits : List ℕ) (n m : ℕ) → AreBits bits → n < m → number_from n bits < m * 2 ^ length bits
+unfolding number_from
+number_from-lt [] n m are below = omega arith
+number_from-lt (b ∷ bs) n m are below =
+    let small = are.0 in
+    let next : 2 * n + b < 2 * m = omega arith in
+    let power : 2 ^ suc (length bs) ≡ 2 ^ length bs * 2 = pow-suc 2 (length bs) in
+    let product : 2 * m * 2 ^ length bs ≡ m * (2 ^ length bs * 2) = grind arith in
+    let rest = number_from-lt bs (2 * n + b) (2 * m) are.1 next in
+    rw (power, ← product) rest
+
+number_of-lt : (bits : List ℕ) → AreBits bits → length bits ≡ 8 → number_of bits < 256
+unfolding number_of
+number_of-lt bits are eight =
+    let power : 2 ^ length bits ≡ 256 = rw eight refl in
+    omega (arith, number_from-lt bits 0 1 are (omega arith), power)
+
+pub bytes_of_bits-lt : (k : ℕ) (bits : List ℕ) → length bits ≡ 8 * k → AreBits bits
+    → All (λ byte. byte < 256) (bytes_of_bits k bits)
+unfolding bytes_of_bits
+bytes_of_bits-lt zero bits long are = All-nil (λ byte. byte < 256)
+bytes_of_bits-lt (suc k) bits long are =
+    let first = number_of-lt (take 8 bits) (AreBits-take 8 bits are) (length-take-le 8 bits (omega arith)) in
+    let rest = bytes_of_bits-lt k (drop 8 bits) (length-drop 8 bits ∙ omega arith) (AreBits-drop 8 bits are) in
+    All-cons (λ byte. byte < 256) (number_of (take 8 bits)) (bytes_of_bits k (drop 8 bits)) first rest
+
+pub length-bytes_of_bits : (k : ℕ) (bits : List ℕ) → length (bytes_of_bits k bits) ≡ k
+unfolding bytes_of_bits
+length-bytes_of_bits zero bits = refl
+length-bytes_of_bits (suc k) bits = ap suc (length-bytes_of_bits k (drop 8 bits))

@@ -16,7 +16,7 @@ length-cipher_function : (half key : List ℕ) → length (cipher_function half 
 unfolding cipher_function
 length-cipher_function half key = length-bits_by_table round_permutation _
 
-length-exclusive_or : (xs ys : List ℕ) → length xs ≡ length ys → length (exclusive_or xs ys) ≡ length xs
+pub length-exclusive_or : (xs ys : List ℕ) → length xs ≡ length ys → length (exclusive_or xs ys) ≡ length xs
 unfolding exclusive_or
 length-exclusive_or [] ys same = refl
 length-exclusive_or (x ∷ xs) [] same = cc

@@ -1,12 +1,14 @@
 -- Triple DES undoes itself, and under one key of eight bytes it is DES.
-use Rattle.std.proofs.Common.{◌≡◌, ℕ, zero, suc, ◌<◌, List, [], ◌∷◌, length, get_or, sym, ap, ◌∙◌, arith}
+use Rattle.std.proofs.Common.{◌≡◌, ℕ, zero, suc, ◌+◌, ◌<◌, ◌≤◌, List, [], ◌∷◌, ◌++◌, length, take, drop, get_or, refl, sym, ap, ◌∙◌, arith}
 use Rattle.std.specs.List.{All}
-use Rattle.std.proofs.lemmas.List.{take_all}
+use Rattle.std.proofs.lemmas.List.{append_assoc, drop-drop, drop_all, length-drop, length-take-le, take_all, take-append-drop}
+use Rattle.std.proofs.Math.Seq.{take-append-add}
+use Rattle.des_core.proofs.RoundLemmas.{same_two}
 use Rattle.std.proofs.lemmas.List.Elements.{All-head, All-tail}
-use Rattle.des_core.specs.Bits.{bits_of_bytes, bytes_of_bits}
+use Rattle.des_core.specs.Bits.{IsBlock, bits_of_bytes, bytes_of_bits}
 use Rattle.des_core.specs.Des.{des, des_back, des_bytes, des_back_bytes}
 use Rattle.des_core.specs.TripleDes.{first_key, second_key, third_key, tdea_bytes, tdea_back_bytes}
-use Rattle.des_core.proofs.ByteLemmas.{AreBits-bits_of_bytes, bits_of_bytes-bytes_of_bits, bytes_of_bits-bits_of_bytes, length-bits_of_bytes}
+use Rattle.des_core.proofs.ByteLemmas.{AreBits, AreBits-bits_of_bytes, bytes_of_bits-lt, length-bytes_of_bits, bits_of_bytes-bytes_of_bits, bytes_of_bits-bits_of_bytes, length-bits_of_bytes}
 use Rattle.des_core.proofs.InverseLemmas.{AreBits-des, AreBits-des_back, des-des_back, des_back-des, length-des, length-des_back}
 
 -- K1, K2 and K3 of a key of eight bytes are the key
@@ -70,3 +72,87 @@ tdea_bytes-injective key first second first_long second_long first_small second_
     sym (tdea_back_bytes-tdea_bytes key first first_long (below_everywhere first first_small))
     ∙ (ap (tdea_back_bytes key) same
     ∙ tdea_back_bytes-tdea_bytes key second second_long (below_everywhere second second_small))
+
+pub IsBlock-tdea_bytes : (key block : List ℕ) → IsBlock (tdea_bytes key block)
+unfolding tdea_bytes
+IsBlock-tdea_bytes key block =
+    let bits = bits_of_bytes block in
+    let second = des_back (bits_of_bytes (second_key key)) (des (bits_of_bytes (first_key key)) bits) in
+    let are : AreBits second =
+    AreBits-des_back (bits_of_bytes (second_key key)) _ (AreBits-des (bits_of_bytes (first_key key)) bits (AreBits-bits_of_bytes block)) in
+    let k3 = bits_of_bytes (third_key key) in
+    (length-bytes_of_bits 8 (des k3 second), bytes_of_bits-lt 8 (des k3 second) (length-des k3 second) (AreBits-des k3 second are))
+
+pub block_back : (key block : List ℕ) → IsBlock block → tdea_back_bytes key (tdea_bytes key block) ≡ block
+block_back key block is = tdea_back_bytes-tdea_bytes key block is.0 (below_everywhere block is.1)
+
+-- eight bytes of a cipher as bits
+bits_of-des_bytes : (key block : List ℕ) → bits_of_bytes (des_bytes key block) ≡ des (bits_of_bytes key) (bits_of_bytes block)
+unfolding des_bytes
+bits_of-des_bytes key block =
+    bits_of_bytes-bytes_of_bits 8 (des (bits_of_bytes key) (bits_of_bytes block)) (length-des (bits_of_bytes key) (bits_of_bytes block))
+    (AreBits-des (bits_of_bytes key) (bits_of_bytes block) (AreBits-bits_of_bytes block))
+
+bits_of-des_back_bytes : (key block : List ℕ)
+    → bits_of_bytes (des_back_bytes key block) ≡ des_back (bits_of_bytes key) (bits_of_bytes block)
+unfolding des_back_bytes
+bits_of-des_back_bytes key block =
+    bits_of_bytes-bytes_of_bits 8 (des_back (bits_of_bytes key) (bits_of_bytes block))
+    (length-des_back (bits_of_bytes key) (bits_of_bytes block))
+    (AreBits-des_back (bits_of_bytes key) (bits_of_bytes block) (AreBits-bits_of_bytes block))
+
+-- triple DES is three ciphers of blocks in a row
+pub tdea_bytes-in_a_row : (key block : List ℕ)
+    → tdea_bytes key block ≡ des_bytes (third_key key) (des_back_bytes (second_key key) (des_bytes (first_key key) block))
+unfolding tdea_bytes
+tdea_bytes-in_a_row key block =
+    unfold des_bytes in rw (bits_of-des_back_bytes, bits_of-des_bytes) (unfold tdea_bytes in refl)
+
+pub tdea_back_bytes-in_a_row : (key block : List ℕ)
+    → tdea_back_bytes key block ≡ des_back_bytes (first_key key) (des_bytes (second_key key) (des_back_bytes (third_key key) block))
+unfolding tdea_back_bytes
+tdea_back_bytes-in_a_row key block =
+    unfold des_back_bytes in rw (bits_of-des_bytes, bits_of-des_back_bytes) (unfold tdea_back_bytes in refl)
+
+-- a key cut after its first eight bytes, and after all of them
+cut : (key first rest : List ℕ) → first ≡ take 8 key → 8 ≤ length key → take (length (drop 8 key)) rest ≡ drop 8 key
+    → take (length key) (first ++ rest) ≡ key
+cut key first rest is long more =
+    let count : length key ≡ length first + length (drop 8 key) =
+    omega (arith, ap length is, length-take-le 8 key long, length-drop 8 key) in
+    ap (λ n. take n (first ++ rest)) count
+    ∙ (take-append-add first rest (length (drop 8 key)) ∙ (same_two (λ xs ys. xs ++ ys) is more ∙ take-append-drop 8 key))
+
+-- K1, K2 and K3 in a row are the key, and bytes behind it
+pub key_of-8 : (key a b c : List ℕ) → length key ≡ 8 → a ≡ take 8 key → take (length key) ((a ++ b) ++ c) ≡ key
+key_of-8 key a b c eight a_is =
+    let none : drop 8 key ≡ [] = drop_all 8 key (omega arith) in
+    ap (take (length key)) (append_assoc a b c) ∙ cut key a (b ++ c) a_is (omega arith) (rw none refl)
+
+pub key_of-16 : (key a b c : List ℕ) → length key ≡ 16 → a ≡ take 8 key → b ≡ take 8 (drop 8 key)
+    → take (length key) ((a ++ b) ++ c) ≡ key
+key_of-16 key a b c sixteen a_is b_is =
+    let left : length (drop 8 key) ≡ 8 = length-drop 8 key ∙ omega arith in
+    let none : drop 8 (drop 8 key) ≡ [] = drop_all 8 (drop 8 key) (omega arith) in
+    ap (take (length key)) (append_assoc a b c)
+    ∙ cut key a (b ++ c) a_is (omega arith) (cut (drop 8 key) b c b_is (omega arith) (rw none refl))
+
+pub key_of-24 : (key a b c : List ℕ) → length key ≡ 24 → a ≡ take 8 key → b ≡ take 8 (drop 8 key) → c ≡ take 8 (drop 16 key)
+    → take (length key) ((a ++ b) ++ c) ≡ key
+key_of-24 key a b c long a_is b_is c_is =
+    let left : length (drop 8 key) ≡ 16 = length-drop 8 key ∙ omega arith in
+    let last : length (drop 8 (drop 8 key)) ≡ 8 = length-drop 8 (drop 8 key) ∙ omega arith in
+    let end : drop 16 key ≡ drop 8 (drop 8 key) = sym (drop-drop 8 8 key) in
+    let third : c ≡ drop 8 (drop 8 key) = c_is ∙ (ap (take 8) end ∙ take_all 8 (drop 8 (drop 8 key)) (omega arith)) in
+    ap (take (length key)) (append_assoc a b c)
+    ∙ cut key a (b ++ c) a_is (omega arith)
+    (cut (drop 8 key) b c b_is (omega arith) (ap (take (length (drop 8 (drop 8 key)))) third ∙ take_all _ (drop 8 (drop 8 key)) (omega arith)))
+
+-- eight bytes come out
+pub length-des_bytes : (key block : List ℕ) → length (des_bytes key block) ≡ 8
+unfolding des_bytes
+length-des_bytes key block = length-bytes_of_bits 8 (des (bits_of_bytes key) (bits_of_bytes block))
+
+pub length-des_back_bytes : (key block : List ℕ) → length (des_back_bytes key block) ≡ 8
+unfolding des_back_bytes
+length-des_back_bytes key block = length-bytes_of_bits 8 (des_back (bits_of_bytes key) (bits_of_bytes block))

@@ -1,5 +1,5 @@
 -- Numbers and bytes as lists of bits. A bit is 0 or 1, and the most significant bit comes first.
-use Rattle.std.specs.Prelude.{ℕ, zero, suc, ◌+◌, ◌*◌, List, [], ◌∷◌, ◌++◌, take, drop, bit_xor}
+use Rattle.std.specs.Prelude.{◌≡◌, ℕ, zero, suc, ◌+◌, ◌*◌, ◌<◌, List, [], ◌∷◌, ◌++◌, length, take, drop, bit_xor, All}
 use Rattle.std.specs.Int.{bit_at}
 
 -- the lowest `width` bits of a number
@@ -31,3 +31,7 @@ unfoldable pub exclusive_or : List ℕ → List ℕ → List ℕ
 exclusive_or [] bits = []
 exclusive_or (a ∷ rest) [] = []
 exclusive_or (a ∷ rest) (b ∷ bits) = bit_xor a b ∷ exclusive_or rest bits
+
+-- the list is eight bytes
+abbrev pub IsBlock : List ℕ → Type 0
+IsBlock bytes = (length bytes ≡ 8) × All (λ byte. byte < 256) bytes

@@ -1,7 +1,11 @@
 -- Triple DES (FIPS 46-3, TDEA) under a key of 8, 16 or 24 bytes: K1, K2 and K3. With 16 bytes K3 is K1, with 8 all three are equal.
 use Rattle.des_core.specs.Bits.{bits_of_bytes, bytes_of_bits}
 use Rattle.des_core.specs.Des.{des, des_back}
-use Rattle.std.specs.Prelude.{List, drop, if◌then◌else◌, length, nat_lt, take, ℕ}
+use Rattle.std.specs.Prelude.{Bool, List, drop, if◌then◌else◌, length, nat_lt, take, ℕ, ◌==◌, ◌||◌, ◌≡◌}
+
+-- how many bytes a key has: 8, 16 or 24
+abbrev pub is_key_length : ℕ → Bool
+is_key_length count = (count == 8) || (count == 16) || (count == 24)
 
 -- K1: the first 8 bytes
 abbrev pub first_key : List ℕ → List ℕ
@@ -24,3 +28,9 @@ tdea_bytes key block =
 unfoldable pub tdea_back_bytes : List ℕ → List ℕ → List ℕ
 tdea_back_bytes key block =
     bytes_of_bits 8 (des_back (bits_of_bytes (first_key key)) (des (bits_of_bytes (second_key key)) (des_back (bits_of_bytes (third_key key)) (bits_of_bytes block))))
+
+-- three keys of 8 bytes are K1, K2 and K3 of a key
+pub record AreKeysOf (key first second third : List ℕ) : Type 0 where
+  pub first_is : first ≡ first_key key
+  pub second_is : second ≡ second_key key
+  pub third_is : third ≡ third_key key

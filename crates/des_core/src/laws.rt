@@ -8,7 +8,7 @@ ghost use Rattle.des_core.specs.Permutations.{
 };
 ghost use Rattle.des_core.specs.KeyTables.{permuted_choice_1, permuted_choice_2, left_shifts};
 ghost use Rattle.des_core.specs.SelectionFunctions.{selection_functions};
-ghost use Rattle.des_core.specs.Bits.{exclusive_or};
+ghost use Rattle.des_core.specs.Bits.{exclusive_or, IsBlock};
 ghost use Rattle.des_core.specs.Des.{des_bytes, des_back_bytes, des_number};
 ghost use Rattle.des_core.specs.TripleDes.{tdea_bytes, tdea_back_bytes};
 
@@ -41,10 +41,12 @@ pub fn encryption_undoes_decryption(key: Block, x: Block)
     ensures { des_bytes key.0 (des_back_bytes key.0 x.0) ≡ x.0 }
 {}
 
-/// Under a key of eight bytes triple DES is DES.
-pub fn one_key_is_single_des(key: Block, x: Block)
-    ensures encrypted { tdea_bytes key.0 x.0 ≡ des_bytes key.0 x.0 }
-    ensures decrypted { tdea_back_bytes key.0 x.0 ≡ des_back_bytes key.0 x.0 }
+/// Under a key of eight bytes triple DES is DES, and gives eight bytes.
+pub fn one_key_is_single_des()
+    ensures encrypted { (key block : List ℕ) → length key ≡ 8 → length block ≡ 8 → tdea_bytes key block ≡ des_bytes key block }
+    ensures decrypted { (key block : List ℕ) → length key ≡ 8 → length block ≡ 8 → tdea_back_bytes key block ≡ des_back_bytes key block }
+    ensures eight { (key block : List ℕ) → length (des_bytes key block) ≡ 8 }
+    ensures eight_back { (key block : List ℕ) → length (des_back_bytes key block) ≡ 8 }
 {}
 
 /// For every key, whatever its length, decrypting undoes encrypting.
@@ -52,14 +54,21 @@ pub fn triple_decryption_undoes_encryption(key: &[u8], x: Block)
     ensures { tdea_back_bytes key.now (tdea_bytes key.now x.0) ≡ x.0 }
 {}
 
+/// For every key, whatever its length, triple DES gives blocks, and decrypting undoes encrypting.
+pub fn triple_encryption_of_blocks()
+    ensures gives_a_block { (key block : List ℕ) → IsBlock (tdea_bytes key block) }
+    ensures undone { (key block : List ℕ) → IsBlock block → tdea_back_bytes key (tdea_bytes key block) ≡ block }
+{}
+
 /// Under one key, whatever its length, two blocks that encrypt to the same are the same.
 pub fn triple_encryption_tells_blocks_apart()
     ensures { (key first second : List ℕ) → length first ≡ 8 → length second ≡ 8 → All (λ byte. byte < 256) first → All (λ byte. byte < 256) second → tdea_bytes key first ≡ tdea_bytes key second → first ≡ second }
 {}
 
-/// A second exclusive or with the same list undoes the first.
+/// A second exclusive or with the same list undoes the first, and lists of one length give one of that length.
 pub fn exclusive_or_undoes_itself()
-    ensures { (xs ys : List ℕ) → length xs ≡ length ys → exclusive_or (exclusive_or xs ys) ys ≡ xs }
+    ensures long { (xs ys : List ℕ) → length xs ≡ length ys → length (exclusive_or xs ys) ≡ length xs }
+    ensures undone { (xs ys : List ℕ) → length xs ≡ length ys → exclusive_or (exclusive_or xs ys) ys ≡ xs }
 {}
 
 /// Four published answers, computed by the definition alone, with no code: key, block and answer as numbers of 64 bits.

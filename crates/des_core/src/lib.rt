@@ -1,4 +1,5 @@
-//! The Data Encryption Standard, DES (FIPS 46-3): a block of eight bytes enciphered and deciphered by a key of eight.
+//! The Data Encryption Standard, DES (FIPS 46-3): a block of eight bytes enciphered and deciphered by a key of eight; and
+//! triple DES, by a key of 8, 16 or 24 bytes.
 #![tactic(auto)]
 
 mod cipher;
@@ -9,5 +10,7 @@ mod rounds;
 mod tables;
 #[cfg(test)]
 mod tests;
+mod triple;
 
-pub use cipher::{des_decrypt, des_encrypt};
+pub use cipher::{Des, des_decrypt, des_encrypt};
+pub use triple::{BadLength, Tdea, block_at};

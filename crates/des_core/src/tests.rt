@@ -1,5 +1,6 @@
-use crate::{des_decrypt, des_encrypt};
+use crate::{Tdea, des_decrypt, des_encrypt};
 use pad_words::Block;
+use std::alloc::{AllocError, Global};
 
 fn block(number: u64) -> Block {
     Block(number.to_be_bytes())
@@ -69,5 +70,171 @@ fn openssl_answers(rt: HostRuntime) {
     for (key, plain, cipher) in OPENSSL_ANSWERS {
         assert_eq!(rt; des_encrypt(block(key), block(plain)), block(cipher));
         assert_eq!(rt; des_decrypt(block(key), block(cipher)), block(plain));
+    }
+}
+
+/// Keys of 8, 16 and 24 bytes as numbers of 64 bits, plain blocks and what OpenSSL 3.0.19 answers. Keys and blocks are the
+/// beginnings of digests. Made by:
+///
+/// for i in $(seq 1 24); do
+///     size=$((8 * ((i - 1) % 3 + 1)))
+///     case $size in 8) cipher=des-ecb ;; 16) cipher=des-ede-ecb ;; 24) cipher=des-ede3-ecb ;; esac
+///     key=$(printf 'triple key %d' $i | openssl dgst -sha256 -r | cut -c 1-$((2 * size)))
+///     plain=$(printf 'triple block %d' $i | openssl dgst -sha256 -r | cut -c 1-16)
+///     answer=$(printf $plain | xxd -r -p |
+///         openssl enc -$cipher -nopad -K $key -provider legacy -provider default | xxd -p)
+///     numbers=$(printf ${key^^} | sed 's/.\{16\}/, 0x&/g; s/^, //')
+///     echo "(&[$numbers], 0x${plain^^}, 0x${answer^^}),"
+/// done
+const OPENSSL_TRIPLE_ANSWERS: [(&[u64], u64, u64); 24] = [
+    (
+        &[0x4B5FDBCB3405AAF3],
+        0xD2B43DBFC59832DC,
+        0x974D6C903BAB79FC,
+    ),
+    (
+        &[0xA0E7B14B476774AA, 0x33A34F52080CA111],
+        0x2D58982F56942791,
+        0x368DA4DBDCE81A29,
+    ),
+    (
+        &[0x656F87038867848E, 0x9DC7108A9E35B54E, 0x96798ABD477CC8A6],
+        0xE2F5AE940F57E6C0,
+        0xF5222C99E2D0737C,
+    ),
+    (
+        &[0xD851281E6DE2D639],
+        0x7DE6DE3BC9A1D127,
+        0x3B8F72CB0C3A824C,
+    ),
+    (
+        &[0xFD587D92545312AB, 0x86D785F07C399080],
+        0xDB16F848451BEE5A,
+        0x9EF7610BB54D577F,
+    ),
+    (
+        &[0x157A1B2EE7A2E377, 0x69780D3B11F5DA4F, 0x57ED14C53A500292],
+        0x50D46B7086904E20,
+        0xDAB805FA9C75ED5D,
+    ),
+    (
+        &[0xD051936163E22ABD],
+        0xEDFDAC9A58EB7DE0,
+        0x6D9FF3A0B79B1BF3,
+    ),
+    (
+        &[0xA775801A45258964, 0x45ED477B48D3FAC5],
+        0x6F1BAA30E19FA16E,
+        0x3815A99F234CF1B5,
+    ),
+    (
+        &[0x01220325C0D0A212, 0x2FDBECC2AE62456A, 0x6C167A28C29ED398],
+        0xFBA5F121E798465B,
+        0x3AF780719AE049B2,
+    ),
+    (
+        &[0x402924B93F4188EC],
+        0x0DD1E2B8961514E1,
+        0xF83851318A49BC3F,
+    ),
+    (
+        &[0x3EA4F004E1821AFC, 0x1E55B7098B3D9F5C],
+        0xA8950E38FE443F69,
+        0x0068E9597F4651C3,
+    ),
+    (
+        &[0xC239D07210214FE3, 0x937BB2EAF674AA34, 0xB70BB3E1DC84574C],
+        0x5720D3FE78DAE0BB,
+        0xB09FE85F294964D6,
+    ),
+    (
+        &[0xC0A14826CEB26A3A],
+        0x38D64818D1DC7BFC,
+        0x53DF4A016B7EA909,
+    ),
+    (
+        &[0xC7E5CD094F20BAFB, 0x45716D3DAE12BAEB],
+        0x69E455395ACAB8F6,
+        0x493FE0C1879B0A58,
+    ),
+    (
+        &[0xD140ACA95A97D486, 0xD8C86B01B4C5C8ED, 0xB6F659F2315338C3],
+        0x4C7C957D535EC301,
+        0x8CA84DE6B943C1B3,
+    ),
+    (
+        &[0xDE2C00726B92950B],
+        0x2899430D09ABBB17,
+        0xFC2E7C2FA5DE7B4C,
+    ),
+    (
+        &[0x48C99B5BEC900EB1, 0xFD910B8A2E803069],
+        0x952E653AD881F0F7,
+        0xC48D47116F25CE4B,
+    ),
+    (
+        &[0x031A1D5F2F63223C, 0xDEB1D154FEF30B91, 0xFFE6A19DE72BACAD],
+        0x5161014C9D19AE93,
+        0x82DD303519854976,
+    ),
+    (
+        &[0xE1A130E26AEA969F],
+        0x882D43690623C574,
+        0xE6F4F3918D099CEC,
+    ),
+    (
+        &[0xA475334D7BBE6776, 0xDEC81F1493E706C8],
+        0x96E0F8907145D32E,
+        0xDD17F2A4196B341D,
+    ),
+    (
+        &[0x6684040A92A57603, 0xC2726DBC7405B781, 0x6D828B6B59C46280],
+        0x1B5B54E0BC98B015,
+        0x1EFC7E0DA0C8BA4A,
+    ),
+    (
+        &[0x4B0ED82ADE29C8A7],
+        0x6998AFB656986548,
+        0x54EF4CD8FDF723EA,
+    ),
+    (
+        &[0x3D1C88498AEAC2C3, 0x191BB40F45F406CD],
+        0xB55D5FAD12CEA6B4,
+        0x6DB2B4688817A949,
+    ),
+    (
+        &[0x544D925AFAED7D3B, 0xE051EE31DDC2105A, 0x53002A88D9F6CADF],
+        0x302E23B4FC2411C3,
+        0x2077FC0DF4C4E70F,
+    ),
+];
+
+fn key_bytes(alloc: Global, numbers: &[u64]) -> Result<Vec<u8>, AllocError> {
+    let mut bytes = Vec::new(alloc);
+    for number in numbers {
+        bytes.extend_from_slice(&number.to_be_bytes())?;
+    }
+    Ok(bytes)
+}
+
+#[test]
+fn openssl_triple_answers(rt: HostRuntime) -> Result<(), std::test::Fail> {
+    for (key, plain, cipher) in OPENSSL_TRIPLE_ANSWERS {
+        let key = key_bytes(rt.alloc(), key)?;
+        let tdea = Tdea::new(&key)?;
+        assert_eq!(rt; tdea.encrypt(block(plain)), block(cipher));
+        assert_eq!(rt; tdea.decrypt(block(cipher)), block(plain));
+    }
+    Ok(())
+}
+
+#[test]
+fn triple_key_lengths(rt: HostRuntime) {
+    let bytes = [0x5A; 32];
+    for length in [8, 16, 24] {
+        assert!(rt; Tdea::new(&bytes[..length]).is_ok(), "{length}");
+    }
+    for length in [0, 7, 9, 15, 17, 23, 25, 32] {
+        assert!(rt; Tdea::new(&bytes[..length]).is_err(), "{length}");
     }
 }
