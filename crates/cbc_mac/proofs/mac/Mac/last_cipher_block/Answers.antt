@@ -1,0 +1,24 @@
+use Rattle.std.proofs.Common.{◌≡◌, ◌++◌, ◌-◌, replicate, take, ap, subst, sym, ◌∙◌}
+use Rattle.des_core.specs.Bits.{exclusive_or}
+use Rattle.des_core.specs.Des.{des_bytes}
+use Rattle.cbc_mac.specs.Macs.{Fed, mac}
+use Rattle.cbc_mac.proofs.MacLemmas.{last_whole, last_filled, left_of}
+use Rattle.cbc_mac.proofs.mac.Mac.last_cipher_block.Goals as goal
+
+pub returns-then-self-eq0 : goal.returns-then-self-eq0
+returns-then-self-eq0 c =
+    let s = c.self.inside in
+    let P : Fed → Type 0 = λ fed. s.chained.0 ≡ mac des_bytes (take 8 fed.key) fed.message c.args.pad in
+    subst P c.self.view_is
+    (last_whole s.left s.chained.0 s.held s.message.bytes s.held_count c.args.pad c.self.invariant c.if-self-eq0.true
+    ∙ ap (λ key. mac des_bytes key s.message.bytes c.args.pad) (sym (left_of s.left s.right c.self.invariant.left_length)))
+
+pub returns : goal.returns
+returns c =
+    let s = c.self.inside in
+    let P : Fed → Type 0 = λ fed. c.encrypt.result.0 ≡ mac des_bytes (take 8 fed.key) fed.message c.args.pad in
+    let sealed : c.encrypt.result.0 ≡ des_bytes s.left (exclusive_or (take s.held_count s.held ++ replicate (8 - s.held_count) c.args.pad) s.chained.0) =
+    c.encrypt.ensures ∙ ap (des_bytes s.left) (c.exclusive_or.ensures ∙ ap (λ block. exclusive_or block s.chained.0) c.padded_block-block.ensures) in
+    subst P c.self.view_is
+    (last_filled s.left s.chained.0 s.held s.message.bytes c.encrypt.result.0 s.held_count c.args.pad c.self.invariant c.if-self-eq0.false sealed
+    ∙ ap (λ key. mac des_bytes key s.message.bytes c.args.pad) (sym (left_of s.left s.right c.self.invariant.left_length)))
