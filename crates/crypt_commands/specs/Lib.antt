@@ -1,0 +1,2 @@
+pub mod Crypts
+pub mod Faults
