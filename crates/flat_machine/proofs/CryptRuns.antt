@@ -2,7 +2,7 @@
 use Rattle.des_core.specs.Bits.{exclusive_or}
 use Rattle.flat_machine.proofs.RunCommands.{import_clear, refused}
 use Rattle.flat_machine.proofs.RunWords.{beginning, counting_key, done_on_disk, done_quietly, quiet, reply_in, said_after, session_1}
-use Rattle.flat_machine.specs.Ciphers.{zero_block}
+use Rattle.cbc_mac.specs.Modes.{blocks, cbc, cbc_back, last_or, padded, zero_block}
 use Rattle.flat_machine.specs.Machine.{Act}
 use Rattle.pad_steps.specs.declared.answers.Reply.{Reply}
 use Rattle.pad_steps.specs.declared.commands.Algorithm.{Algorithm}
@@ -43,13 +43,13 @@ two_blocks = replicate 8 0x11 ++ replicate 8 0x22
 -- cipher block chaining from zero and from a clear start value, and back
 chaining : after_keys (done_quietly (crypt mode.Cbc way.Encrypt (codes "CK") started.Zero 0 two_blocks) ++ done_quietly (crypt mode.Cbc way.Encrypt (codes "CK") (started.Clear (record { 0 = replicate 8 1 })) 0 two_blocks) ++ done_quietly (crypt mode.Cbc way.Decrypt (codes "CK") started.Zero 0 (replicate 8 0x11 ++ replicate 8 0x33)))
     ≡ encrypted (replicate 8 0x11 ++ replicate 8 0x33) ∷ encrypted (replicate 8 0x10 ++ replicate 8 0x32) ∷ encrypted two_blocks ∷ []
-unfolding exclusive_or
+unfolding exclusive_or blocks cbc cbc_back padded last_or
 chaining = refl
 
 -- an authentication code is the last block, of bytes that are padded; also under the two parts of a key
 authentication : after_keys (done_quietly (crypt mode.Mac way.Encrypt (codes "CK") started.Zero 5 (replicate 8 0x11 ++ 0x22 ∷ [])) ++ done_quietly (crypt mode.Retail way.Encrypt (codes "MK") started.Zero 0 two_blocks))
     ≡ authenticated (0x33 ∷ replicate 7 0x14) ∷ authenticated (replicate 8 0x33) ∷ []
-unfolding exclusive_or
+unfolding exclusive_or blocks cbc cbc_back padded last_or
 authentication = refl
 
 -- refused as it is done: a key of the wrong length, bytes that are no whole blocks, no bytes, a key without the use

@@ -2,7 +2,7 @@
 use Rattle.des_core.specs.Bits.{exclusive_or}
 use Rattle.flat_machine.proofs.RunCommands.{begun_entry, checked, counting_check, digit, done, import_clear, mac_under, pin_block, pin_key, refused, unchecked, zero_check}
 use Rattle.flat_machine.proofs.RunWords.{beginning, counting_key, done_on_disk, done_quietly, listening_to, quiet, replies_by, said_after, session_1, zero_encrypted}
-use Rattle.flat_machine.specs.Ciphers.{zero_block}
+use Rattle.cbc_mac.specs.Modes.{blocks, cbc, last_or, padded, zero_block}
 use Rattle.flat_machine.specs.Machine.{Act}
 use Rattle.pad_steps.specs.declared.commands.Command.{Command}
 use Rattle.pad_steps.specs.declared.commands.Verify.{Verify}
@@ -31,6 +31,7 @@ sealed_imports : said_after (listening_to true false) (done_on_disk (import_clea
     ≡ out.Request session_1 1 ∷ out.Ended session_1 1 (checked zero_check) ∷ out.Request session_1 2 ∷ out.Ended session_1 2 (checked zero_check)
     ∷ out.Request session_1 3 ∷ out.Ended session_1 3 (refused refusal.UseViolation) ∷ out.Event session_1 (event.IllegalKeyAccess (codes "W") refusal.UseViolation)
     ∷ out.Request session_1 4 ∷ out.Ended session_1 4 (refused (refusal.DuplicateKey (codes "KEK"))) ∷ out.Refused session_1 refusal.UnsuppCommand ∷ []
+unfolding blocks
 sealed_imports = refl
 
 -- key parts from the pad
@@ -54,7 +55,7 @@ sixteen_zeros = digit 0 refl ∷ digit 0 refl ∷ digit 0 refl ∷ digit 0 refl 
 key_of_two_parts : replies_by (beginning ++ key_entry ++ counting_digits ++ done_on_disk (import_part 0x84 verify.Nothing) word.Done
     ++ done_quietly (mac_under (codes "MEK")) ++ done_quietly (import_part 4 verify.Nothing) ++ done_quietly (import_part 0x84 verify.Nothing) ++ key_entry ++ sixteen_zeros ++ done_on_disk (import_part 4 verify.Zero) word.Done)
     ≡ reply.Ok (answer.Part 16 completion.Auto (Some counting_check)) ∷ unchecked ∷ refused refusal.KeyNoValue ∷ refused refusal.AccessDenied ∷ refused refusal.AccessDenied ∷ reply.Ok (answer.Part 16 completion.Auto (Some zero_check)) ∷ checked counting_check ∷ []
-unfolding exclusive_or
+unfolding exclusive_or blocks cbc last_or padded
 key_of_two_parts = refl
 
 abbrev construct_name : List ℕ
@@ -64,7 +65,7 @@ construct_name = codes "C"
 key_under_construction : replies_by (beginning ++ done_on_disk (import_clear construct_name counting_key 0x44 verify.Nothing) word.Done ++ done_quietly (mac_under construct_name)
     ++ done_quietly (import_clear construct_name zero_block 1 verify.Nothing) ++ done_quietly (import_clear construct_name (replicate 16 0) 4 verify.Nothing) ++ done_on_disk (import_clear construct_name zero_block 4 verify.Zero) word.Done)
     ≡ unchecked ∷ refused refusal.KeyNoValue ∷ refused refusal.AccessDenied ∷ refused refusal.InvalidKeyLength ∷ checked counting_check ∷ []
-unfolding exclusive_or
+unfolding exclusive_or blocks cbc last_or padded
 key_under_construction = refl
 
 -- a value of one byte, and both construct bits

@@ -3,7 +3,8 @@ use Rattle.flat_machine.proofs.TableLemmas.{Fits, Free, OnlyAt, SlotRow, Table, 
 use Rattle.flat_machine.specs.Ciphers.{Ciphers}
 use Rattle.flat_machine.specs.Decisions.{Decided, Goes, Stops, and_then, unless}
 use Rattle.flat_machine.specs.FinishSteps.{deletion, import_now}
-use Rattle.flat_machine.specs.Imports.{decide_import, decide_row, duplicate, given_bytes, into_empty, is_key_length, is_part, longer_than_key, new_row, of_other_length, placed, refuse_duplicate, refuses_part, sealed_under, unfinished}
+use Rattle.flat_machine.specs.Imports.{decide_import, decide_row, duplicate, given_bytes, into_empty, is_part, longer_than_key, new_row, of_other_length, placed, refuse_duplicate, refuses_part, sealed_under, unfinished}
+use Rattle.pad_steps.specs.Formed.{is_key_length}
 use Rattle.flat_machine.specs.KeyRows.{Change, KeyRows, changed, empty_slot, erasures, find_key, permit_maybe, put_row, slot_taken}
 use Rattle.flat_machine.specs.State.{Public, device_refusal, on_device}
 use Rattle.key_attributes.specs.declared.KeyRow.{KeyRow}

@@ -1,5 +1,6 @@
 -- Words to write runs with, for the runs that are computed in the files beside this one.
-use Rattle.flat_machine.specs.Ciphers.{Ciphers, zero_block}
+use Rattle.cbc_mac.specs.Modes.{zero_block}
+use Rattle.flat_machine.specs.Ciphers.{Ciphers}
 use Rattle.flat_machine.specs.Facts.{outs_of}
 use Rattle.flat_machine.specs.Machine.{Act, fits, lines_from, next, run}
 use Rattle.flat_machine.specs.Standard.{standard_work}

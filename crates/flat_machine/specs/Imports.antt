@@ -1,13 +1,16 @@
 -- IMPORT_KEY: a value in clear, sealed under a key-encrypting key, or from the part buffer of SECUREKEY_ENTRY. A key may come in parts, joined by XOR; these rules are this project's own.
 use Rattle.des_core.specs.Bits.{exclusive_or}
-use Rattle.flat_machine.specs.Ciphers.{Ciphers, blocks_of, ecb}
+use Rattle.cbc_mac.specs.Modes.{blocks_of, ecb}
+use Rattle.flat_machine.specs.Ciphers.{Ciphers}
 use Rattle.flat_machine.specs.Decisions.{Decided, Goes, Stops, and_then, unless}
 use Rattle.flat_machine.specs.KeyRows.{KeyRows, empty_slot, find_key, permit_maybe}
 use Rattle.key_attributes.specs.UseBits.{forbids_duplicates, has_construct, has_secure_construct, plain_uses, under_construction}
 use Rattle.key_attributes.specs.declared.KeyRow.{KeyRow}
+use Rattle.pad_steps.specs.Formed.{is_key_length}
 use Rattle.pad_steps.specs.declared.commands.ImportRequest.{ImportRequest}
 use Rattle.pad_steps.specs.declared.commands.ImportSource.{ImportSource}
 use Rattle.pad_words.specs.Bytes.{packed}
+use Rattle.std.specs.List.{concat}
 use Rattle.std.specs.Prelude.{Bool, List, None, Option, Some, [], bytes_eq, false, if◌then◌else◌, length, nat_lt, not, true, ℕ, ◌&&◌, ◌==◌, ◌||◌, ◌∷◌}
 use Rattle.pad_steps.specs.declared.answers.Refusal.TheVariants as refusals
 use Rattle.pad_steps.specs.declared.commands.ImportSource.TheVariants as origin
@@ -41,10 +44,6 @@ abbrev pub refuses_part : Option KeyRow → ImportRequest → Bool
 refuses_part None request = false
 refuses_part (Some old) request = not (plain_uses old.uses == plain_uses request.uses)
     || (has_construct old.uses && is_part request.source) || (has_secure_construct old.uses && not (is_part request.source))
-
--- 8, 16 or 24 bytes: a DES key, or a triple DES key of two or three parts (FIPS 46-3)
-abbrev pub is_key_length : ℕ → Bool
-is_key_length size = (size == 8) || (size == 16) || (size == 24)
 
 -- the value is longer than the key-encrypting key
 abbrev pub longer_than_key : ℕ → Option (List ℕ) → Bool
@@ -94,7 +93,7 @@ module _ (cipher : Ciphers) where
   -- the bytes decrypted by ECB (FIPS 81) under the key-encrypting key, or as they are without one
   abbrev pub unsealed : Option (List ℕ) → List ℕ → List ℕ
   unsealed None bytes = bytes
-  unsealed (Some kek) bytes = ecb (cipher.tdea_back kek) (blocks_of bytes)
+  unsealed (Some kek) bytes = concat (ecb (cipher.tdea_back kek) (blocks_of bytes))
 
   -- the row that the import makes: the request's name and uses, and the joined value
   abbrev pub new_row : ImportRequest → Option KeyRow → Option (List ℕ) → List ℕ → KeyRow

@@ -1,6 +1,6 @@
 -- Submit, Cancel, Tick and Ask (WFSExecute, WFSCancelAsyncRequest, time-outs, WFSGetInfo).
 use Rattle.flat_machine.specs.Ciphers.{Ciphers, check_value}
-use Rattle.flat_machine.specs.Crypts.{is_decrypt, is_mac}
+use Rattle.crypt_commands.specs.Faults.{is_decrypt, is_mac}
 use Rattle.flat_machine.specs.Imports.{is_part}
 use Rattle.flat_machine.specs.KeyRows.{find_key, names_of}
 use Rattle.flat_machine.specs.Requests.{Found, Nowhere, Replied, StillPending, look, pending_count, pending_where, same_session}
