@@ -2,15 +2,17 @@
 use Rattle.std.proofs.Common.{◌≡◌, ℕ, List, Some, refl, ap, subst, ◌∙◌, arith, rules}
 use Rattle.std.specs.Prelude.{codes}
 use Rattle.script_lang.specs.Words.{Says}
-use Rattle.script_lang.specs.Reading.{read_number, read_rules, read_pinblock, read_import, command_rows, read_command}
+use Rattle.script_lang.specs.Reading.{read_number, read_rules, read_pinblock, read_import, read_crypt, command_rows, read_command}
 use Rattle.std.specs.Option.{option_map}
-use Rattle.script_lang.specs.Spelling.{number_word, end_word, mask_word, rules_words, block_words, import_words, command_words}
+use Rattle.script_lang.specs.Spelling.{number_word, end_word, mask_word, rules_words, block_words, crypt_words, import_words, command_words}
 use Rattle.pad_steps.specs.declared.commands.BlockRequest.{BlockRequest}
+use Rattle.pad_steps.specs.declared.commands.CryptRequest.{CryptRequest}
 use Rattle.pad_steps.specs.declared.commands.EntryRules.{EntryRules}
 use Rattle.pad_steps.specs.declared.commands.ImportRequest.{ImportRequest}
 use Rattle.pad_steps.specs.declared.commands.PinRequest.TheVariants as pin
 use Rattle.pad_steps.specs.declared.commands.Command.{Command}
 use Rattle.pad_steps.specs.declared.commands.Command.TheVariants as command
+use Rattle.script_lang.proofs.CryptLaws.{crypt_reads}
 use Rattle.script_lang.proofs.Fits.{CommandFits, MaskFits, RulesFit}
 use Rattle.script_lang.proofs.HexLaws.{mask_field}
 use Rattle.script_lang.proofs.ImportLaws.{import_reads}
@@ -70,9 +72,15 @@ import_takes bytes c e =
     let s = import_reads.takes bytes r.0 r.1 in
     subst (λ c. CommandFits c × After (codes "import") bytes (command_words c)) r.2 (s.0, (refl, s.1))
 
+crypt_takes : RowTakes CommandFits command_words (codes "crypt", λ bytes. option_map (λ (request : CryptRequest). command.Crypt request) (read_crypt bytes))
+crypt_takes bytes c e =
+    let r = mapped_some (read_crypt bytes) (λ (request : CryptRequest). command.Crypt request) c e in
+    let s = crypt_reads.takes bytes r.0 r.1 in
+    subst (λ c. CommandFits c × After (codes "crypt") bytes (command_words c)) r.2 (s.0, (refl, s.1))
+
 command_takes : (bytes : List ℕ) (c : Command) → read_command bytes ≡ Some c → Spelled CommandFits command_words c bytes
 unfolding read_command
-command_takes = one_of_takes CommandFits command_words command_rows (getpin_takes, (pinblock_takes, (import_takes, tt)))
+command_takes = one_of_takes CommandFits command_words command_rows (getpin_takes, (pinblock_takes, (import_takes, (crypt_takes, tt))))
 
 command_again : (bytes : List ℕ) (c : Command) → CommandFits c → Says bytes (command_words c) → read_command bytes ≡ Some c
 unfolding read_command
@@ -83,7 +91,7 @@ command_again bytes (command.MaintainPin on) fits s = absurd fits
 command_again bytes (command.Pin (pin.Block r)) fits s = one_of_again command_rows (codes "pinblock") (block_words r) bytes s ∙ ap (option_map (λ (request : BlockRequest). command.Pin (pin.Block request))) (block_reads.again s.0 r (fits, s.2))
 command_again bytes (command.Pin (pin.Check r)) fits s = absurd fits
 command_again bytes (command.Pin (pin.Extra r)) fits s = absurd fits
-command_again bytes (command.Crypt request) fits s = absurd fits
+command_again bytes (command.Crypt r) fits s = one_of_again command_rows (codes "crypt") (crypt_words r) bytes s ∙ ap (option_map (λ (request : CryptRequest). command.Crypt request)) (crypt_reads.again s.0 r (fits, s.2))
 command_again bytes (command.ImportKey r) fits s = one_of_again command_rows (codes "import") (import_words r) bytes s ∙ ap (option_map (λ (request : ImportRequest). command.ImportKey request)) (import_reads.again s.0 r (fits, s.2))
 command_again bytes (command.DeleteKey name) fits s = absurd fits
 command_again bytes command.Init fits s = absurd fits

@@ -4,22 +4,27 @@ use Rattle.std.specs.Prelude.{◌&&◌, IsTrue, is_none, nat_le, nat_lt, not}
 use Rattle.std.specs.List.{AllByRecursion}
 use Rattle.std.proofs.lemmas.Bool.{eqb-true, ltb-true}
 use Rattle.std.proofs.lemmas.Bool.Decides.{nat_tests}
+use Rattle.key_attributes.specs.UseBits.{allows, forbids_duplicates, uses_valid}
+use Rattle.key_attributes.specs.declared.Use.TheVariants as purpose
 use Rattle.pad_words.specs.Names.{is_key_name}
 use Rattle.pad_words.specs.declared.bytes.Block.{Block}
 use Rattle.key_source.specs.declared.Key.{Key}
 use Rattle.key_source.specs.declared.Mask.{Mask}
 use Rattle.script_lang.specs.Spelling.{is_built}
 use Rattle.pad_steps.specs.declared.commands.BlockRequest.{BlockRequest}
+use Rattle.pad_steps.specs.declared.commands.CryptRequest.{CryptRequest}
 use Rattle.pad_steps.specs.declared.commands.EntryRules.{EntryRules}
 use Rattle.pad_steps.specs.declared.commands.ImportRequest.{ImportRequest}
 use Rattle.pad_steps.specs.declared.commands.ImportSource.{ImportSource}
 use Rattle.pad_steps.specs.declared.commands.ImportSource.TheVariants as origin
 use Rattle.pad_steps.specs.declared.commands.PinRequest.{PinRequest}
 use Rattle.pad_steps.specs.declared.commands.PinRequest.TheVariants as pin
+use Rattle.pad_steps.specs.declared.commands.Start.{Start}
+use Rattle.pad_steps.specs.declared.commands.Start.TheVariants as started
 use Rattle.pad_steps.specs.declared.commands.Command.{Command}
 use Rattle.pad_steps.specs.declared.steps.Step.{Step}
 use Rattle.pad_steps.specs.Accounts.{all_decimal, is_pan}
-use Rattle.pad_steps.specs.Formed.{all_bytes, is_scripted, is_well_formed_command, is_built_block, is_built_entry, is_built_import, is_built_key, is_built_session, is_built_source, is_format_0, is_unchecked, same_mask, entry_keys, ending_keys}
+use Rattle.pad_steps.specs.Formed.{all_bytes, is_block, is_scripted, is_well_formed_command, is_built_block, is_built_crypt, is_built_entry, is_built_import, is_built_key, is_built_session, is_built_source, is_built_start, is_built_uses, is_format_0, is_key_length, is_unchecked, same_mask, entry_keys, ending_keys}
 use Rattle.script_lang.specs.declared.kinds.Line.{Line}
 use Rattle.key_source.specs.declared.Key.TheVariants as keypad
 use Rattle.pad_steps.specs.declared.commands.Command.TheVariants as command
@@ -82,6 +87,14 @@ SourceFits origin.Part = ⊥
 abbrev pub ImportFits : ImportRequest → Type 0
 ImportFits r = NameFits r.name × SourceFits r.source × UsesFit r.uses
 
+abbrev pub StartFits : Start → Type 0
+StartFits started.Zero = Unit {0}
+StartFits (started.Clear block) = BlockFits block
+StartFits (started.Sealed name block) = NameFits name × BlockFits block
+
+abbrev pub CryptFits : CryptRequest → Type 0
+CryptFits r = NameFits r.key × StartFits r.start × IsByte r.pad × BytesFit 0 1024 r.body
+
 abbrev pub PinFits : PinRequest → Type 0
 PinFits (pin.Block request) = RequestFits request
 PinFits (pin.Check request) = ⊥
@@ -93,7 +106,7 @@ CommandFits (command.GetData rules) = ⊥
 CommandFits (command.SecureKeyEntry rules) = ⊥
 CommandFits (command.MaintainPin on) = ⊥
 CommandFits (command.Pin request) = PinFits request
-CommandFits (command.Crypt request) = ⊥
+CommandFits (command.Crypt request) = CryptFits request
 CommandFits (command.ImportKey request) = ImportFits request
 CommandFits (command.DeleteKey name) = ⊥
 CommandFits command.Init = ⊥
@@ -164,20 +177,51 @@ RequestFits-from_built r e =
     let low : r.pad ≤ 15 = grind (arith, nat_tests, pad.1) in
     (key.1, OptionFits-from_none NameFits r.second second.1, OptionFits-from_none BlockFits r.xor xor.1, NibblesFit-from_pan r.customer customer.1, omega (arith, low))
 
+key_length_range : (n : ℕ) → is_key_length n ≡ true → (1 ≤ n) × (n ≤ 64)
+key_length_range n e = (grind (arith, nat_tests), grind (arith, nat_tests))
+
 SourceFits-from_built : (source : ImportSource) → is_built_source source ≡ true → SourceFits source
 SourceFits-from_built (origin.Clear value) e =
-    let both = both_true (eqb (length value) 8) (all_bytes value) e in
-    let eight : length value ≡ 8 = eqb-true (length value) 8 both.0 in
-    (omega (arith, eight), omega (arith, eight), bytes-from_all value both.1)
+    let both = both_true (is_key_length (length value)) (all_bytes value) e in
+    let range = key_length_range (length value) both.0 in
+    (range.0, range.1, bytes-from_all value both.1)
 SourceFits-from_built (origin.Sealed name value) e = absurd cc
 SourceFits-from_built origin.Part e = absurd cc
 
+UsesFit-from_built : (uses : ℕ) → is_built_uses uses ≡ true → UsesFit uses
+UsesFit-from_built uses e =
+    let duplicates = both_true ((uses_valid uses && nat_lt uses 64) && not (allows uses purpose.KeyEncKey)) (not (forbids_duplicates uses)) e in
+    let sealing = both_true (uses_valid uses && nat_lt uses 64) (not (allows uses purpose.KeyEncKey)) duplicates.0 in
+    let low = both_true (uses_valid uses) (nat_lt uses 64) sealing.0 in
+    omega (arith, ltb-true uses 64 low.1)
+
 ImportFits-from_built : (r : ImportRequest) → is_built_import r ≡ true → ImportFits r
 ImportFits-from_built r e =
-    let verify = both_true ((is_key_name r.name && is_built_source r.source) && eqb r.uses 0x0002) (is_unchecked r.verify) e in
-    let uses = both_true (is_key_name r.name && is_built_source r.source) (eqb r.uses 0x0002) verify.0 in
+    let verify = both_true ((is_key_name r.name && is_built_source r.source) && is_built_uses r.uses) (is_unchecked r.verify) e in
+    let uses = both_true (is_key_name r.name && is_built_source r.source) (is_built_uses r.uses) verify.0 in
     let source = both_true (is_key_name r.name) (is_built_source r.source) uses.0 in
-    (source.0, SourceFits-from_built r.source source.1, omega (arith, eqb-true r.uses 0x0002 uses.1))
+    (source.0, SourceFits-from_built r.source source.1, UsesFit-from_built r.uses uses.1)
+
+BlockFits-from_block : (block : Block) → is_block block ≡ true → BlockFits block
+BlockFits-from_block block e =
+    let both = both_true (eqb (length block.0) 8) (all_bytes block.0) e in
+    (eqb-true (length block.0) 8 both.0, bytes-from_all block.0 both.1)
+
+StartFits-from_built : (start : Start) → is_built_start start ≡ true → StartFits start
+StartFits-from_built started.Zero e = tt
+StartFits-from_built (started.Clear block) e = BlockFits-from_block block e
+StartFits-from_built (started.Sealed name block) e =
+    let both = both_true (is_key_name name) (is_block block) e in
+    (both.0, BlockFits-from_block block both.1)
+
+CryptFits-from_built : (r : CryptRequest) → is_built_crypt r ≡ true → CryptFits r
+CryptFits-from_built r e =
+    let bytes = both_true (((is_key_name r.key && is_built_start r.start) && nat_lt r.pad 256) && nat_le (length r.body) 1024) (all_bytes r.body) e in
+    let size = both_true ((is_key_name r.key && is_built_start r.start) && nat_lt r.pad 256) (nat_le (length r.body) 1024) bytes.0 in
+    let pad = both_true (is_key_name r.key && is_built_start r.start) (nat_lt r.pad 256) size.0 in
+    let start = both_true (is_key_name r.key) (is_built_start r.start) pad.0 in
+    let most : length r.body ≤ 1024 = grind (arith, nat_tests, size.1) in
+    (start.0, StartFits-from_built r.start start.1, ltb-true r.pad 256 pad.1, (omega arith, most, bytes-from_all r.body bytes.1))
 
 CommandFits-from_well_formed : (c : Command) → is_well_formed_command c ≡ true → CommandFits c
 CommandFits-from_well_formed (command.GetPin rules) e = RulesFit-from_built rules e
@@ -187,7 +231,7 @@ CommandFits-from_well_formed (command.MaintainPin on) e = absurd cc
 CommandFits-from_well_formed (command.Pin (pin.Block request)) e = RequestFits-from_built request e
 CommandFits-from_well_formed (command.Pin (pin.Check request)) e = absurd cc
 CommandFits-from_well_formed (command.Pin (pin.Extra request)) e = absurd cc
-CommandFits-from_well_formed (command.Crypt request) e = absurd cc
+CommandFits-from_well_formed (command.Crypt request) e = CryptFits-from_built request e
 CommandFits-from_well_formed (command.ImportKey request) e = ImportFits-from_built request e
 CommandFits-from_well_formed (command.DeleteKey name) e = absurd cc
 CommandFits-from_well_formed command.Init e = absurd cc

@@ -4,9 +4,10 @@ use Rattle.std.specs.List.{AllByRecursion}
 use Rattle.std.proofs.lemmas.List.{take_at, drop_at, take-append-drop, length-take, length-drop}
 use Rattle.std.proofs.lemmas.Bool.{eqb-true}
 use Rattle.script_lang.specs.Words.{hex_value, hex_values, with_value}
-use Rattle.script_lang.specs.Reading.{◌>>=◌, digits_onto, hex_number, read_mask, read_uses}
-use Rattle.script_lang.specs.Spelling.{mask_word, four_values, eight_values, uses_word}
-use Rattle.script_lang.proofs.Fits.{IsNibble, MaskFits, UsesFit}
+use Rattle.pad_words.specs.Bytes.{unpacked}
+use Rattle.script_lang.specs.Reading.{◌>>=◌, digits_onto, hex_number, read_byte, read_mask, read_uses}
+use Rattle.script_lang.specs.Spelling.{byte_word, mask_word, four_values, eight_values, uses_word}
+use Rattle.script_lang.proofs.Fits.{IsByte, IsNibble, MaskFits, UsesFit}
 use Rattle.script_lang.proofs.Options.{bind_some, guard_some, some_is}
 use Rattle.script_lang.proofs.Readers.{IsField}
 
@@ -154,5 +155,30 @@ uses_field = record {
       let long : length text ≡ 4 = sym (digits_len text (four_values uses) says) in
       let same : hex_fold 0 (four_values uses) ≡ uses = fold_four 0 uses [] small ∙ omega (arith) in
       let value : hex_number text ≡ Some uses = hex_again text (four_values uses) 0 says ∙ ap (λ (n : ℕ). Some n) same in
+      rw (long, value) refl;
+}
+
+-- ---- numbers of two digits
+
+two_folded : (ds : List ℕ) → length ds ≡ 2 → AllByRecursion IsNibble ds → (unpacked (hex_fold 0 ds ∷ []) ≡ ds) × IsByte (hex_fold 0 ds)
+two_folded (a ∷ b ∷ []) len all =
+    let high : (16 * (16 * 0 + a) + b) / 16 ≡ a = omega (arith, all.0, all.1.0) in
+    let low : (16 * (16 * 0 + a) + b) % 16 ≡ b = omega (arith, all.0, all.1.0) in
+    (rw (high, low) refl, omega (arith, all.0, all.1.0))
+two_folded ds len all = absurd (omega (arith, len))
+
+pub byte_field : IsField read_byte IsByte byte_word
+unfolding read_byte
+byte_field = record {
+  takes = λ text byte e.
+      let g = guard_some (eqb (length text) 2) _ byte e in
+      let t = hex_takes text 0 byte g.1 in
+      let f = two_folded t.0 (digits_len text t.0 t.1 ∙ eqb-true (length text) 2 g.0) (digits_small text t.0 t.1) in
+      let is : unpacked (byte ∷ []) ≡ t.0 = ap (λ (b : ℕ). unpacked (b ∷ [])) (sym t.2) ∙ f.0 in
+      (omega (arith, t.2, f.1), t.1 ∙ ap (λ (ds : List ℕ). Some ds) (sym is));
+  again = λ text byte small says.
+      let long : length text ≡ 2 = sym (digits_len text (unpacked (byte ∷ [])) says) in
+      let same : hex_fold 0 (unpacked (byte ∷ [])) ≡ byte = omega arith in
+      let value : hex_number text ≡ Some byte = hex_again text (unpacked (byte ∷ [])) 0 says ∙ ap (λ (n : ℕ). Some n) same in
       rw (long, value) refl;
 }

@@ -15,6 +15,8 @@ pub mod KeyLaws
 pub mod Fits
 pub mod PinBlockLaws
 pub mod ImportLaws
+pub mod StartLaws
+pub mod CryptLaws
 pub mod CommandLaws
 pub mod LineLaws
 pub mod WordPrints

@@ -6,6 +6,7 @@ use Rattle.pad_steps.specs.Formed.{is_scripted}
 use Rattle.pad_steps.specs.declared.commands.BlockRequest.{BlockRequest}
 use Rattle.pad_steps.specs.declared.commands.Command.{Command}
 use Rattle.pad_steps.specs.declared.commands.Command.TheVariants as command
+use Rattle.pad_steps.specs.declared.commands.CryptRequest.{CryptRequest}
 use Rattle.pad_steps.specs.declared.commands.ImportRequest.{ImportRequest}
 use Rattle.pad_steps.specs.declared.commands.ImportSource.{ImportSource}
 use Rattle.pad_steps.specs.declared.commands.ImportSource.TheVariants as origin
@@ -15,10 +16,10 @@ use Rattle.pad_steps.specs.declared.steps.Step.TheVariants as step
 use Rattle.script_lang.specs.declared.kinds.Line.TheVariants.{Do}
 use Rattle.script_lang.specs.Words.{Word, Says, spaced, joined}
 use Rattle.script_lang.specs.Reading.{line_of}
-use Rattle.script_lang.specs.Spelling.{block_word, block_words, command_words, import_words, name_word, source_words, step_text, step_words, uses_word, verify_word, Spells}
-use Rattle.script_lang.proofs.Fits.{BlockFits, CommandFits, ImportFits, NameFits, RequestFits, SourceFits, StepFits, StepFits-from_scripted}
+use Rattle.script_lang.specs.Spelling.{block_word, block_words, command_words, crypt_words, import_words, name_word, source_words, step_text, step_words, uses_word, verify_word, Spells}
+use Rattle.script_lang.proofs.Fits.{BlockFits, CommandFits, CryptFits, ImportFits, NameFits, RequestFits, SourceFits, StepFits, StepFits-from_scripted}
 use Rattle.script_lang.proofs.LineLaws.{line_again}
-use Rattle.script_lang.proofs.WordPrints.{Prints, block_prints, bytes_print, classes_print, digits_print, end_prints, form_prints, key_prints, mask_prints, name_prints, nibbles_print, number_prints, optional_prints, says_spaced, uses_print, verify_prints}
+use Rattle.script_lang.proofs.WordPrints.{Prints, algorithm_prints, block_prints, body_prints, byte_prints, bytes_print, classes_print, digits_print, direction_prints, end_prints, form_prints, key_prints, mask_prints, name_prints, nibbles_print, number_prints, optional_prints, says_spaced, start_prints, uses_print, verify_prints}
 
 -- ---- commands
 
@@ -33,6 +34,9 @@ source_prints origin.Part more fits all = absurd fits
 import_prints : (r : ImportRequest) → ImportFits r → AllByRecursion Prints (import_words r)
 import_prints r fits = (name_prints r.name fits.0, source_prints r.source (uses_word r.uses ∷ verify_word r.verify ∷ []) fits.1 (uses_print r.uses fits.2, (verify_prints r.verify, tt)))
 
+crypt_words_print : (r : CryptRequest) → CryptFits r → AllByRecursion Prints (crypt_words r)
+crypt_words_print r fits = (algorithm_prints r.algorithm, (direction_prints r.direction, (name_prints r.key fits.0, (start_prints r.start fits.1, (byte_prints r.pad fits.2, (body_prints r.body fits.3.2, tt))))))
+
 command_prints : (c : Command) → CommandFits c → AllByRecursion Prints (command_words c)
 command_prints (command.GetPin r) fits = ((refl, refl), (number_prints r.min (omega (arith, fits.0)), (number_prints r.max (omega (arith, fits.1)), (end_prints r.auto_end, (mask_prints r.active fits.2, (mask_prints r.terminate fits.3, tt))))))
 command_prints (command.GetData rules) fits = absurd fits
@@ -41,7 +45,7 @@ command_prints (command.MaintainPin on) fits = absurd fits
 command_prints (command.Pin (pin.Block r)) fits = ((refl, refl), block_words_print r fits)
 command_prints (command.Pin (pin.Check r)) fits = absurd fits
 command_prints (command.Pin (pin.Extra r)) fits = absurd fits
-command_prints (command.Crypt request) fits = absurd fits
+command_prints (command.Crypt r) fits = ((refl, refl), crypt_words_print r fits)
 command_prints (command.ImportKey r) fits = ((refl, refl), import_prints r fits)
 command_prints (command.DeleteKey name) fits = absurd fits
 command_prints command.Init fits = absurd fits

@@ -1,13 +1,17 @@
 -- Words of few values.
 use Rattle.std.proofs.Common.{◌≡◌, ℕ, List, Option, Some, None, Bool, true, false, cond, refl, subst, inl, inr}
 use Rattle.std.specs.Prelude.{bytes_eq, codes}
-use Rattle.script_lang.specs.Reading.{read_end, read_classes, read_verify, read_form}
+use Rattle.script_lang.specs.Reading.{read_algorithm, read_direction, read_end, read_classes, read_verify, read_form}
+use Rattle.pad_words.specs.declared.Direction.{Direction}
+use Rattle.pad_words.specs.declared.Direction.TheVariants as direction
+use Rattle.pad_steps.specs.declared.commands.Algorithm.{Algorithm}
+use Rattle.pad_steps.specs.declared.commands.Algorithm.TheVariants as algorithm
 use Rattle.pad_steps.specs.declared.commands.Form.{Form}
 use Rattle.pad_steps.specs.declared.commands.Form.TheVariants as forms
 use Rattle.pad_steps.specs.declared.commands.Verify.{Verify}
 use Rattle.pad_steps.specs.declared.commands.Verify.TheVariants as verify
 use Rattle.pad_steps.specs.declared.steps.Classes.{Classes}
-use Rattle.script_lang.specs.Spelling.{end_text, end_word, classes_text, classes_word, verify_text, verify_word, form_text, form_word}
+use Rattle.script_lang.specs.Spelling.{algorithm_text, algorithm_word, direction_text, direction_word, end_text, end_word, classes_text, classes_word, verify_text, verify_word, form_text, form_word}
 use Rattle.script_lang.proofs.Options.{cases_some, same_bytes, some_is}
 use Rattle.script_lang.proofs.Readers.{Always, IsField}
 
@@ -95,4 +99,44 @@ form_field = record {
             (λ e. word_cases text (codes "dieboldco") forms.DieboldCo None f P e (λ is. is) (λ e. absurd cc)))))))),
       );
   again = λ text f h is. rw is (form_again f);
+}
+
+algorithm_again : (a : Algorithm) → read_algorithm (algorithm_text a) ≡ Some a
+unfolding read_algorithm algorithm_text
+algorithm_again algorithm.Ecb = refl
+algorithm_again algorithm.Cbc = refl
+algorithm_again algorithm.Cfb = refl
+algorithm_again algorithm.Mac = refl
+algorithm_again algorithm.Retail = refl
+
+pub algorithm_field : IsField read_algorithm Always algorithm_word
+unfolding read_algorithm algorithm_text
+algorithm_field = record {
+  takes = λ text a e.
+      let P : Algorithm → Type 0 = λ a. text ≡ algorithm_text a in (
+        tt,
+        word_cases text (codes "ecb") algorithm.Ecb _ a P e (λ is. is)
+            (λ e. word_cases text (codes "cbc") algorithm.Cbc _ a P e (λ is. is)
+            (λ e. word_cases text (codes "cfb") algorithm.Cfb _ a P e (λ is. is)
+            (λ e. word_cases text (codes "mac") algorithm.Mac _ a P e (λ is. is)
+            (λ e. word_cases text (codes "retail") algorithm.Retail None a P e (λ is. is) (λ e. absurd cc))))),
+      );
+  again = λ text a h is. rw is (algorithm_again a);
+}
+
+direction_again : (d : Direction) → read_direction (direction_text d) ≡ Some d
+unfolding read_direction direction_text
+direction_again direction.Encrypt = refl
+direction_again direction.Decrypt = refl
+
+pub direction_field : IsField read_direction Always direction_word
+unfolding read_direction direction_text
+direction_field = record {
+  takes = λ text d e.
+      let P : Direction → Type 0 = λ d. text ≡ direction_text d in (
+        tt,
+        word_cases text (codes "encrypt") direction.Encrypt _ d P e (λ is. is)
+            (λ e. word_cases text (codes "decrypt") direction.Decrypt None d P e (λ is. is) (λ e. absurd cc)),
+      );
+  again = λ text d h is. rw is (direction_again d);
 }

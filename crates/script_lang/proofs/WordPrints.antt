@@ -1,23 +1,30 @@
 -- Printed words are read again: they hold no space, and say what they spell.
-use Rattle.std.proofs.Common.{◌≡◌, ◌≤◌, ◌<◌, ℕ, ◌+◌, List, [], ◌∷◌, ◌++◌, length, Option, Some, None, Bool, true, false, refl, arith, ◌^◌, map}
+use Rattle.std.proofs.Common.{◌≡◌, ◌≤◌, ◌<◌, ℕ, ◌+◌, List, [], ◌∷◌, ◌++◌, length, Option, Some, None, Bool, true, false, refl, arith, ◌∙◌, ◌^◌, map}
 use Rattle.std.specs.Prelude.{IsTrue, ◌&&◌, nat_le}
 use Rattle.std.specs.List.{list_all, AllByRecursion}
 use Rattle.std.specs.Fmt.{decimal}
 use Rattle.std.specs.Str.{all_ascii_digits}
 use Rattle.std.proofs.lemmas.Bool.Decides.{nat_tests}
+use Rattle.std.proofs.lemmas.List.Folds.{list_all-append}
 use Rattle.pad_words.specs.Bytes.{unpacked}
 use Rattle.pad_words.specs.Names.{is_name_byte}
 use Rattle.pad_words.specs.declared.bytes.Block.{Block}
 use Rattle.key_source.specs.declared.Key.{Key}
 use Rattle.key_source.specs.declared.Key.TheVariants as keypad
 use Rattle.key_source.specs.declared.Mask.{Mask}
+use Rattle.pad_words.specs.declared.Direction.{Direction}
+use Rattle.pad_words.specs.declared.Direction.TheVariants as direction
+use Rattle.pad_steps.specs.declared.commands.Algorithm.{Algorithm}
+use Rattle.pad_steps.specs.declared.commands.Algorithm.TheVariants as algorithm
 use Rattle.pad_steps.specs.declared.commands.Form.{Form}
 use Rattle.pad_steps.specs.declared.commands.Form.TheVariants as forms
+use Rattle.pad_steps.specs.declared.commands.Start.{Start}
+use Rattle.pad_steps.specs.declared.commands.Start.TheVariants as started
 use Rattle.pad_steps.specs.declared.commands.Verify.{Verify}
 use Rattle.pad_steps.specs.declared.commands.Verify.TheVariants as verify
-use Rattle.script_lang.specs.Words.{Word, Exact, Digits, IsWord, Says, is_no_space, hex_value, hex_values, hex_digit, word_text, spaced}
-use Rattle.script_lang.specs.Spelling.{number_word, end_text, classes_text, key_text, key_word, mask_word, four_values, eight_values, verify_text, verify_word, form_text, form_word, name_word, optional_word, bytes_word, block_word, nibbles_word, uses_word}
-use Rattle.script_lang.proofs.Fits.{BlockFits, IsByte, IsNibble, KeyFits, MaskFits, NameFits, OptionFits, UsesFit}
+use Rattle.script_lang.specs.Words.{Word, Exact, Digits, Tagged, IsWord, Says, is_no_space, hex_value, hex_values, hex_digit, word_text, spaced}
+use Rattle.script_lang.specs.Spelling.{number_word, end_text, classes_text, key_text, key_word, mask_word, four_values, eight_values, verify_text, verify_word, form_text, form_word, name_word, optional_word, bytes_word, block_word, nibbles_word, uses_word, algorithm_text, algorithm_word, direction_text, direction_word, start_word, byte_word, body_word}
+use Rattle.script_lang.proofs.Fits.{BlockFits, IsByte, IsNibble, KeyFits, MaskFits, NameFits, OptionFits, StartFits, UsesFit}
 use Rattle.script_lang.proofs.KeyLaws.{fdk_key_text, hex_key_text}
 use Rattle.script_lang.proofs.NumberLaws.{digits_decimal_all}
 use Rattle.script_lang.proofs.Options.{both_true}
@@ -166,3 +173,33 @@ nibbles_print (v ∷ vs) all = digits_print (v ∷ vs) all
 
 pub uses_print : (uses : ℕ) → UsesFit uses → Prints (uses_word uses)
 uses_print uses small = digits_print (four_values uses) (omega (arith, small), (omega arith, (omega arith, (omega arith, tt))))
+
+pub algorithm_prints : (a : Algorithm) → Prints (algorithm_word a)
+unfolding algorithm_text
+algorithm_prints algorithm.Ecb = (refl, refl)
+algorithm_prints algorithm.Cbc = (refl, refl)
+algorithm_prints algorithm.Cfb = (refl, refl)
+algorithm_prints algorithm.Mac = (refl, refl)
+algorithm_prints algorithm.Retail = (refl, refl)
+
+pub direction_prints : (d : Direction) → Prints (direction_word d)
+unfolding direction_text
+direction_prints direction.Encrypt = (refl, refl)
+direction_prints direction.Decrypt = (refl, refl)
+
+tagged_prints : (name ds : List ℕ) → NameFits name → AllByRecursion IsNibble ds → Prints (Tagged name ds)
+tagged_prints name ds fits all =
+    let digits = digits_print ds all in
+    (list_all-append is_no_space name (58 ∷ map hex_digit ds) ∙ rw ((name_prints name fits).0, digits.0) refl, (map hex_digit ds, refl, digits.1))
+
+pub start_prints : (s : Start) → StartFits s → Prints (start_word s)
+start_prints started.Zero fits = (refl, refl)
+start_prints (started.Clear block) fits = block_prints block fits
+start_prints (started.Sealed name block) fits = tagged_prints name (unpacked block.0) fits.0 (halves_small block.0 fits.1.1)
+
+pub byte_prints : (byte : ℕ) → IsByte byte → Prints (byte_word byte)
+byte_prints byte small = bytes_print (byte ∷ []) (small, tt)
+
+pub body_prints : (body : List ℕ) → AllByRecursion IsByte body → Prints (body_word body)
+body_prints [] all = (refl, refl)
+body_prints (b ∷ bytes) all = bytes_print (b ∷ bytes) all

@@ -3,6 +3,8 @@ use Rattle.std.specs.Prelude.{Bool, List, None, Ok, Err, Option, Result, Some, [
 use Rattle.std.specs.Option.{option_map}
 use Rattle.std.specs.List.{prefix_len}
 use denote.Ref.{Bor}
+use Rattle.pad_words.specs.declared.Direction.{Direction}
+use Rattle.pad_words.specs.declared.Direction.TheVariants as direction
 use Rattle.pad_words.specs.declared.numbers.Session.{Session}
 use Rattle.pad_words.specs.declared.numbers.Digit.{Digit}
 use Rattle.pad_words.specs.Bytes.{packed}
@@ -12,9 +14,12 @@ use Rattle.pad_words.specs.declared.bytes.Block.{Block}
 use Rattle.key_source.specs.declared.Key.{Key}
 use Rattle.key_source.specs.declared.Key.TheVariants as keypad
 use Rattle.key_source.specs.declared.Mask.{Mask}
+use Rattle.pad_steps.specs.declared.commands.Algorithm.{Algorithm}
+use Rattle.pad_steps.specs.declared.commands.Algorithm.TheVariants as algorithm
 use Rattle.pad_steps.specs.declared.commands.BlockRequest.{BlockRequest}
 use Rattle.pad_steps.specs.declared.commands.Command.{Command}
 use Rattle.pad_steps.specs.declared.commands.Command.TheVariants as command
+use Rattle.pad_steps.specs.declared.commands.CryptRequest.{CryptRequest}
 use Rattle.pad_steps.specs.declared.commands.EntryRules.{EntryRules}
 use Rattle.pad_steps.specs.declared.commands.Form.{Form}
 use Rattle.pad_steps.specs.declared.commands.Form.TheVariants as forms
@@ -22,6 +27,8 @@ use Rattle.pad_steps.specs.declared.commands.ImportRequest.{ImportRequest}
 use Rattle.pad_steps.specs.declared.commands.ImportSource.{ImportSource}
 use Rattle.pad_steps.specs.declared.commands.ImportSource.TheVariants as origin
 use Rattle.pad_steps.specs.declared.commands.PinRequest.TheVariants as pin
+use Rattle.pad_steps.specs.declared.commands.Start.{Start}
+use Rattle.pad_steps.specs.declared.commands.Start.TheVariants as started
 use Rattle.pad_steps.specs.declared.commands.Verify.{Verify}
 use Rattle.pad_steps.specs.declared.commands.Verify.TheVariants as verify
 use Rattle.pad_steps.specs.declared.steps.Classes.{Classes}
@@ -134,6 +141,14 @@ read_bytes low high word = if (length word % 2 == 0) && nat_le low (length word 
 unfoldable pub read_block : List ℕ → Option Block
 read_block word = if length word == 16 then option_map (λ (bytes : List ℕ). record { 0 = bytes }) (hex_bytes word) else None
 
+-- one byte
+unfoldable pub read_byte : List ℕ → Option ℕ
+read_byte word = if length word == 2 then hex_number word else None
+
+-- at most 1,024 bytes, or `-` for none
+unfoldable pub read_body : List ℕ → Option (List ℕ)
+read_body word = if bytes_eq word (codes "-") then Some [] else read_bytes 1 1024 word
+
 -- a key's name
 unfoldable pub read_name : List ℕ → Option (List ℕ)
 read_name word = if is_key_name word then Some word else None
@@ -141,6 +156,22 @@ read_name word = if is_key_name word then Some word else None
 -- what this reader reads, or `-` for none
 abbrev pub read_optional : {A : Type 0} → (List ℕ → Option A) → List ℕ → Option (Option A)
 read_optional read word = if bytes_eq word (codes "-") then Some None else option_map (λ x. Some x) (read word)
+
+abbrev pub is_no_colon : ℕ → Bool
+is_no_colon c = not (c == 58)
+
+-- how many bytes stand before the first colon
+abbrev pub tag_len : List ℕ → ℕ
+tag_len word = prefix_len is_no_colon word
+
+-- a block, or a block sealed under the key whose name stands before a colon
+unfoldable pub read_start_block : List ℕ → List ℕ → Option Start
+read_start_block front [] = option_map (λ (block : Block). started.Clear block) (read_block front)
+read_start_block front (colon ∷ digits) = read_name front >>= λ name. option_map (λ (block : Block). started.Sealed name block) (read_block digits)
+
+-- a start value, or `-` for zeros
+unfoldable pub read_start : List ℕ → Option Start
+read_start word = if bytes_eq word (codes "-") then Some started.Zero else read_start_block (take (tag_len word) word) (drop (tag_len word) word)
 
 unfoldable pub read_end : List ℕ → Option Bool
 read_end word = if bytes_eq word (codes "auto") then Some true else if bytes_eq word (codes "hold") then Some false else None
@@ -169,6 +200,19 @@ read_form word = if bytes_eq word (codes "iso0") then Some forms.Iso0
     else if bytes_eq word (codes "dieboldco") then Some forms.DieboldCo
     else None
 
+unfoldable pub read_algorithm : List ℕ → Option Algorithm
+read_algorithm word = if bytes_eq word (codes "ecb") then Some algorithm.Ecb
+    else if bytes_eq word (codes "cbc") then Some algorithm.Cbc
+    else if bytes_eq word (codes "cfb") then Some algorithm.Cfb
+    else if bytes_eq word (codes "mac") then Some algorithm.Mac
+    else if bytes_eq word (codes "retail") then Some algorithm.Retail
+    else None
+
+unfoldable pub read_direction : List ℕ → Option Direction
+read_direction word = if bytes_eq word (codes "encrypt") then Some direction.Encrypt
+    else if bytes_eq word (codes "decrypt") then Some direction.Decrypt
+    else None
+
 -- the key of one byte: a digit, or A to F
 unfoldable pub read_figure : ℕ → Option Key
 read_figure c = if nat_le 48 c && nat_le c 57 then option_map (λ (d : Digit). keypad.Digit d) (digit_of (c - 48))
@@ -195,6 +239,10 @@ unfoldable pub read_pinblock : List ℕ → Option BlockRequest
 read_pinblock = with_field read_form (λ form. with_field read_name (λ key. with_field (read_optional read_name) (λ second. with_field (read_optional read_block) (λ xor. with_field (read_nibbles_or_dash 24) (λ customer. with_field read_nibble (λ pad.
     ended (record { form = form; key = key; second = second; xor = xor; customer = customer; pad = pad })))))))
 
+unfoldable pub read_crypt : List ℕ → Option CryptRequest
+read_crypt = with_field read_algorithm (λ a. with_field read_direction (λ d. with_field read_name (λ key. with_field read_start (λ start. with_field read_byte (λ pad. with_field read_body (λ body.
+    ended (record { algorithm = a; direction = d; key = key; start = start; pad = pad; body = body })))))))
+
 -- the uses and the check mode behind a source
 unfoldable pub read_sourced : List ℕ → ImportSource → List ℕ → Option ImportRequest
 read_sourced name source = with_field read_uses (λ uses. with_field read_verify (λ v. ended (record { name = name; source = source; uses = uses; verify = v })))
@@ -212,7 +260,8 @@ abbrev pub command_rows : List (List ℕ × (List ℕ → Option Command))
 command_rows =
     (codes "getpin", λ bytes. option_map (λ (rules : EntryRules). command.GetPin rules) (read_rules bytes)) ∷
     (codes "pinblock", λ bytes. option_map (λ (request : BlockRequest). command.Pin (pin.Block request)) (read_pinblock bytes)) ∷
-    (codes "import", λ bytes. option_map (λ (request : ImportRequest). command.ImportKey request) (read_import bytes)) ∷ []
+    (codes "import", λ bytes. option_map (λ (request : ImportRequest). command.ImportKey request) (read_import bytes)) ∷
+    (codes "crypt", λ bytes. option_map (λ (request : CryptRequest). command.Crypt request) (read_crypt bytes)) ∷ []
 
 unfoldable pub read_command : List ℕ → Option Command
 read_command = one_of command_rows

@@ -6,10 +6,15 @@ use Rattle.key_source.specs.declared.Key.{Key}
 use Rattle.key_source.specs.declared.Key.TheVariants as keypad
 use Rattle.key_source.specs.declared.Mask.{Mask}
 use Rattle.pad_words.specs.Bytes.{unpacked}
+use Rattle.pad_words.specs.declared.Direction.{Direction}
+use Rattle.pad_words.specs.declared.Direction.TheVariants as direction
 use Rattle.pad_words.specs.declared.bytes.Block.{Block}
+use Rattle.pad_steps.specs.declared.commands.Algorithm.{Algorithm}
+use Rattle.pad_steps.specs.declared.commands.Algorithm.TheVariants as algorithm
 use Rattle.pad_steps.specs.declared.commands.BlockRequest.{BlockRequest}
 use Rattle.pad_steps.specs.declared.commands.Command.{Command}
 use Rattle.pad_steps.specs.declared.commands.Command.TheVariants as command
+use Rattle.pad_steps.specs.declared.commands.CryptRequest.{CryptRequest}
 use Rattle.pad_steps.specs.declared.commands.EntryRules.{EntryRules}
 use Rattle.pad_steps.specs.declared.commands.Form.{Form}
 use Rattle.pad_steps.specs.declared.commands.Form.TheVariants as forms
@@ -19,6 +24,8 @@ use Rattle.pad_steps.specs.declared.commands.ImportSource.TheVariants as origin
 use Rattle.pad_steps.specs.declared.commands.PartRules.{PartRules}
 use Rattle.pad_steps.specs.declared.commands.PinRequest.{PinRequest}
 use Rattle.pad_steps.specs.declared.commands.PinRequest.TheVariants as pin
+use Rattle.pad_steps.specs.declared.commands.Start.{Start}
+use Rattle.pad_steps.specs.declared.commands.Start.TheVariants as started
 use Rattle.pad_steps.specs.declared.commands.Verify.{Verify}
 use Rattle.pad_steps.specs.declared.commands.Verify.TheVariants as verify
 use Rattle.pad_steps.specs.declared.steps.Classes.{Classes}
@@ -29,7 +36,7 @@ use Rattle.pad_steps.specs.declared.steps.Step.TheVariants as step
 use Rattle.pad_steps.specs.Formed.{is_scripted}
 use Rattle.script_lang.specs.declared.kinds.Line.{Line}
 use Rattle.script_lang.specs.declared.kinds.Line.TheVariants as line
-use Rattle.script_lang.specs.Words.{Word, Exact, Digits, Says, joined}
+use Rattle.script_lang.specs.Words.{Word, Exact, Digits, Tagged, Says, joined}
 
 -- ---- fields
 
@@ -132,6 +139,40 @@ nibbles_word (value ∷ values) = Digits (value ∷ values)
 abbrev pub uses_word : ℕ → Word
 uses_word uses = Digits (four_values uses)
 
+-- the word of an algorithm
+unfoldable pub algorithm_text : Algorithm → List ℕ
+algorithm_text algorithm.Ecb = codes "ecb"
+algorithm_text algorithm.Cbc = codes "cbc"
+algorithm_text algorithm.Cfb = codes "cfb"
+algorithm_text algorithm.Mac = codes "mac"
+algorithm_text algorithm.Retail = codes "retail"
+
+abbrev pub algorithm_word : Algorithm → Word
+algorithm_word a = Exact (algorithm_text a)
+
+-- the word of a direction
+unfoldable pub direction_text : Direction → List ℕ
+direction_text direction.Encrypt = codes "encrypt"
+direction_text direction.Decrypt = codes "decrypt"
+
+abbrev pub direction_word : Direction → Word
+direction_word d = Exact (direction_text d)
+
+-- a start value: `-` for zeros, a block, or a key's name, a colon and the block sealed under that key
+abbrev pub start_word : Start → Word
+start_word started.Zero = Exact (codes "-")
+start_word (started.Clear block) = block_word block
+start_word (started.Sealed name block) = Tagged name (unpacked block.0)
+
+-- two hexadecimal digits
+abbrev pub byte_word : ℕ → Word
+byte_word byte = bytes_word (byte ∷ [])
+
+-- two hexadecimal digits for each byte, or `-` where there is none
+abbrev pub body_word : List ℕ → Word
+body_word [] = Exact (codes "-")
+body_word (byte ∷ bytes) = bytes_word (byte ∷ bytes)
+
 -- ---- commands
 
 -- least and greatest length, the end, the active and the terminating keys
@@ -160,6 +201,10 @@ sourced_words r = source_words r.source ++ uses_word r.uses ∷ verify_word r.ve
 abbrev pub import_words : ImportRequest → List Word
 import_words r = name_word r.name ∷ sourced_words r
 
+-- the algorithm, the direction, the key, the start value, the padding byte, the bytes
+abbrev pub crypt_words : CryptRequest → List Word
+crypt_words r = algorithm_word r.algorithm ∷ direction_word r.direction ∷ name_word r.key ∷ start_word r.start ∷ byte_word r.pad ∷ body_word r.body ∷ []
+
 abbrev pub pin_words : PinRequest → List Word
 pin_words (pin.Block request) = Exact (codes "pinblock") ∷ block_words request
 -- no line spells these yet
@@ -177,8 +222,7 @@ command_words (command.DeleteKey name) = Exact (codes "delete") ∷ name_word na
 command_words command.Init = Exact (codes "init") ∷ []
 command_words command.Reset = Exact (codes "reset") ∷ []
 command_words command.RsaImport = Exact (codes "rsa") ∷ []
--- no line spells this yet
-command_words (command.Crypt request) = []
+command_words (command.Crypt request) = Exact (codes "crypt") ∷ crypt_words request
 
 -- ---- steps
 

@@ -2,10 +2,11 @@
 use Rattle.std.specs.Prelude.{Bool, IsTrue, List, None, Option, Some, [], not, if◌then◌else◌, map, nat_le, nat_lt, ℕ, ◌&&◌, ◌++◌, ◌+◌, ◌-◌, ◌==◌, ◌≡◌, ◌∷◌}
 use Rattle.std.specs.List.{list_all}
 
--- a word: these bytes as they stand, or hexadecimal digits of these values
+-- a word: these bytes as they stand, or hexadecimal digits of these values, or bytes, a colon and digits
 pub data Word : Type 0 where
   Exact : List ℕ → Word
   Digits : List ℕ → Word
+  Tagged : List ℕ → List ℕ → Word
 
 -- the value of a hexadecimal digit; letters stand in upper case
 abbrev pub hex_value : ℕ → Option ℕ
@@ -30,11 +31,13 @@ hex_digit v = if nat_lt v 10 then 48 + v else 55 + v
 abbrev pub IsWord : List ℕ → Word → Type 0
 IsWord text (Exact word) = text ≡ word
 IsWord text (Digits vs) = hex_values text ≡ Some vs
+IsWord text (Tagged tag vs) = (digits : List ℕ) × (text ≡ tag ++ 58 ∷ digits) × (hex_values digits ≡ Some vs)
 
 -- the word as it is printed
 abbrev pub word_text : Word → List ℕ
 word_text (Exact word) = word
 word_text (Digits vs) = map hex_digit vs
+word_text (Tagged tag vs) = tag ++ 58 ∷ map hex_digit vs
 
 abbrev pub is_no_space : ℕ → Bool
 is_no_space c = not (c == 32)

@@ -1,19 +1,25 @@
 //! Commands read from left to right, to the line's end.
 ghost use Rattle.std.specs.Prelude.{◌≡◌, Err};
 ghost use Rattle.script_lang.specs.declared.kinds.LineFault.TheVariants.{NoMemory};
-ghost use Rattle.script_lang.specs.Reading.{read_rules, read_pinblock, read_sourced, read_import, read_command, Gives};
+ghost use Rattle.script_lang.specs.Reading.{read_rules, read_pinblock, read_sourced, read_import, read_crypt, read_command, Gives};
 
+use crate::crypt_fields::{read_body, read_start};
 use crate::cutting::{ended, is, next_word};
 use crate::digit_fields::{
-    MOST_BYTES, read_bytes, read_mask, read_nibble, read_nibbles_or_dash, read_uses,
+    read_byte, read_bytes, read_mask, read_nibble, read_nibbles_or_dash, read_uses,
 };
 use crate::fields::read_number;
 use crate::kinds::LineFault;
 use crate::name_fields::{read_name, read_optional_block, read_optional_name};
-use crate::word_fields::{read_end, read_form, read_verify};
-use pad_steps::{BlockRequest, Command, EntryRules, ImportRequest, ImportSource, PinRequest};
+use crate::word_fields::{read_algorithm, read_direction, read_end, read_form, read_verify};
+use pad_steps::{
+    BlockRequest, Command, CryptRequest, EntryRules, ImportRequest, ImportSource, PinRequest,
+};
 use pad_words::KeyName;
 use std::alloc::Global;
+
+/// The greatest number of bytes of a key's value.
+const MOST_KEY_BYTES: usize = 64;
 
 // what is not there is outside the grammar; no memory is taken
 pub fn present<T: Drop>(found: Option<T>) -> Result<T, LineFault>
@@ -107,11 +113,39 @@ fn read_import(alloc: Global, rest: &[u8]) -> Result<ImportRequest, LineFault>
     let (word, rest) = present(next_word(rest))?;
     if is(word, "clear") {
         let (word, rest) = present(next_word(rest))?;
-        let value = read_bytes(alloc, 1, MOST_BYTES, word)?;
+        let value = read_bytes(alloc, 1, MOST_KEY_BYTES, word)?;
         present(read_sourced(name, ImportSource::Clear(value), rest))
     } else {
         Err(LineFault::Outside)
     }
+}
+
+// what is to be encrypted, decrypted or authenticated, and how
+#[tactic(auto, unfolding(crate::specs::Reading::read_crypt))]
+fn read_crypt(alloc: Global, rest: &[u8]) -> Result<CryptRequest, LineFault>
+    ensures { Gives result (read_crypt rest.now) }
+{
+    let (word, rest) = present(next_word(rest))?;
+    let algorithm = present(read_algorithm(word))?;
+    let (word, rest) = present(next_word(rest))?;
+    let direction = present(read_direction(word))?;
+    let (word, rest) = present(next_word(rest))?;
+    let key = present(read_name(word))?;
+    let (word, rest) = present(next_word(rest))?;
+    let start = present(read_start(word))?;
+    let (word, rest) = present(next_word(rest))?;
+    let pad = present(read_byte(word))?;
+    let (word, rest) = present(next_word(rest))?;
+    let body = read_body(alloc, word)?;
+    present(ended(rest))?;
+    Ok(CryptRequest {
+        algorithm,
+        direction,
+        key,
+        start,
+        pad,
+        body,
+    })
 }
 
 // the command that begins with the next word
@@ -129,6 +163,9 @@ pub fn read_command(alloc: Global, rest: &[u8]) -> Result<Command, LineFault>
     } else if is(verb, "import") {
         let request = read_import(alloc, rest)?;
         Ok(Command::ImportKey(request))
+    } else if is(verb, "crypt") {
+        let request = read_crypt(alloc, rest)?;
+        Ok(Command::Crypt(request))
     } else {
         Err(LineFault::Outside)
     }

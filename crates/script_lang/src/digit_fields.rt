@@ -2,7 +2,7 @@
 ghost use Rattle.std.specs.Prelude.{◌≡◌, ◌≤◌, ◌<◌, ◌^◌, ◌*◌, ◌+◌, length, IfSome};
 ghost use Rattle.std.specs.Option.{option_map};
 ghost use Rattle.script_lang.specs.Words.{hex_value, hex_values};
-ghost use Rattle.script_lang.specs.Reading.{hex_number, hex_bytes, read_mask, read_uses, read_nibble, read_nibbles, read_nibbles_or_dash, read_bytes, read_block, Gives};
+ghost use Rattle.script_lang.specs.Reading.{hex_number, hex_bytes, read_mask, read_uses, read_byte, read_nibble, read_nibbles, read_nibbles_or_dash, read_bytes, read_block, Gives};
 
 use crate::cutting::is;
 use crate::kinds::LineFault;
@@ -11,7 +11,7 @@ use pad_words::{Block, Nibbles, Octets};
 use std::alloc::Global;
 
 /// The greatest number of bytes that one word spells.
-pub const MOST_BYTES: usize = 64;
+pub const MOST_BYTES: usize = 1024;
 
 // the value of a hexadecimal digit in upper case
 fn hex_value(c: u8) -> Option<u8>
@@ -61,6 +61,19 @@ pub fn read_uses(word: &[u8]) -> Option<u16>
     if word.len() == 4 {
         let uses = hex_number(word)?;
         Some(uses as u16)
+    } else {
+        None
+    }
+}
+
+// one byte, two digits
+#[tactic(auto, unfolding(crate::specs::Reading::read_byte))]
+pub fn read_byte(word: &[u8]) -> Option<u8>
+    ensures { result ≡ read_byte word.now }
+{
+    if word.len() == 2 {
+        let byte = hex_number(word)?;
+        Some(byte as u8)
     } else {
         None
     }
@@ -141,7 +154,7 @@ fn fill_bytes(word: &[u8], bytes: &mut [u8]) -> Option<()>
 // from low to high bytes
 #[tactic(auto, unfolding(crate::specs::Reading::read_bytes))]
 pub fn read_bytes(alloc: Global, low: usize, high: usize, word: &[u8]) -> Result<Octets, LineFault>
-    requires { high ≤ 64 }
+    requires { high ≤ 1024 }
     ensures { Gives result (read_bytes low high word.now) }
 {
     let count = word.len() / 2;

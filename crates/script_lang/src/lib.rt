@@ -3,6 +3,7 @@
 
 mod commands;
 mod composing;
+mod crypt_fields;
 mod cutting;
 mod digit_fields;
 mod fields;

@@ -2,14 +2,17 @@
 ghost use Rattle.std.specs.Prelude.{◌≡◌, ◌++◌, ◌<◌, OnOk, IsTrue};
 ghost use Rattle.pad_steps.specs.Formed.{is_well_formed_command};
 ghost use Rattle.script_lang.specs.Words.{spaced};
-ghost use Rattle.script_lang.specs.Spelling.{rules_words, block_words, source_words, import_words, command_words};
+ghost use Rattle.script_lang.specs.Spelling.{rules_words, block_words, source_words, import_words, crypt_words, command_words};
 
 use crate::put_fields::{
-    put_bytes, put_end, put_form, put_mask, put_name, put_nibble, put_nibbles, put_number,
-    put_optional_block, put_optional_name, put_uses, put_verify,
+    put_algorithm, put_body, put_byte, put_bytes, put_direction, put_end, put_form, put_mask,
+    put_name, put_nibble, put_nibbles, put_number, put_optional_block, put_optional_name,
+    put_start, put_uses, put_verify,
 };
 use crate::writing::write_word;
-use pad_steps::{BlockRequest, Command, EntryRules, ImportRequest, ImportSource, PinRequest};
+use pad_steps::{
+    BlockRequest, Command, CryptRequest, EntryRules, ImportRequest, ImportSource, PinRequest,
+};
 use pad_words::{NoMemory, Octets};
 use std::alloc::Global;
 
@@ -65,6 +68,18 @@ fn put_import(request: &ImportRequest, text: &mut Octets) -> Result<(), NoMemory
     put_verify(request.verify, text)
 }
 
+// the algorithm, the direction, the key, the start value, the padding byte and the bytes
+fn put_crypt(request: &CryptRequest, text: &mut Octets) -> Result<(), NoMemory>
+    ensures { OnOk result (text.new ≡ text.old ++ spaced (crypt_words request.now)) }
+{
+    put_algorithm(request.algorithm, text)?;
+    put_direction(request.direction, text)?;
+    put_name(&request.key, text)?;
+    put_start(&request.start, text)?;
+    put_byte(request.pad, text)?;
+    put_body(&request.body, text)
+}
+
 // the command, a space before each word
 pub fn put_command(alloc: Global, command: &Command, text: &mut Octets) -> Result<(), NoMemory>
     requires { IsTrue (is_well_formed_command command.now) }
@@ -83,6 +98,10 @@ pub fn put_command(alloc: Global, command: &Command, text: &mut Octets) -> Resul
         Command::ImportKey(request) => {
             write_word(" import", text)?;
             put_import(request, text)
+        }
+        Command::Crypt(request) => {
+            write_word(" crypt", text)?;
+            put_crypt(request, text)
         }
         // no line spells another command yet
         _ => unreachable!(),

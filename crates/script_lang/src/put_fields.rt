@@ -3,12 +3,12 @@ ghost use Rattle.std.specs.Prelude.{◌≡◌, ◌++◌, ◌∷◌, ◌<◌, All
 ghost use Rattle.std.specs.Fmt.{decimal};
 ghost use Rattle.pad_words.specs.Bytes.{unpacked};
 ghost use Rattle.script_lang.specs.Words.{hex_digit, word_text};
-ghost use Rattle.script_lang.specs.Spelling.{four_values, mask_word, end_text, verify_text, form_text, name_word, optional_word, bytes_word, block_word, nibble_word, nibbles_word, uses_word};
+ghost use Rattle.script_lang.specs.Spelling.{four_values, mask_word, end_text, verify_text, form_text, algorithm_text, direction_text, name_word, optional_word, bytes_word, block_word, nibble_word, nibbles_word, uses_word, start_word, byte_word, body_word};
 
 use crate::writing::{hex_digit, write_number, write_word};
 use key_source::Mask;
-use pad_steps::{Form, Verify};
-use pad_words::{Block, KeyName, Nibbles, NoMemory, Octets, Session};
+use pad_steps::{Algorithm, Form, Start, Verify};
+use pad_words::{Block, Direction, KeyName, Nibbles, NoMemory, Octets, Session};
 use std::alloc::Global;
 
 // a space, and the number
@@ -84,6 +84,33 @@ pub fn put_form(form: Form, text: &mut Octets) -> Result<(), NoMemory>
         Form::Ibm3624 => " ibm3624",
         Form::Diebold => " diebold",
         Form::DieboldCo => " dieboldco",
+    };
+    write_word(word, text)
+}
+
+// a space, and the algorithm of a crypt command
+#[tactic(auto, unfolding(crate::specs::Spelling::algorithm_text))]
+pub fn put_algorithm(algorithm: Algorithm, text: &mut Octets) -> Result<(), NoMemory>
+    ensures { OnOk result (text.new ≡ text.old ++ 32 ∷ algorithm_text algorithm) }
+{
+    let word = match algorithm {
+        Algorithm::Ecb => " ecb",
+        Algorithm::Cbc => " cbc",
+        Algorithm::Cfb => " cfb",
+        Algorithm::Mac => " mac",
+        Algorithm::Retail => " retail",
+    };
+    write_word(word, text)
+}
+
+// a space, and the direction
+#[tactic(auto, unfolding(crate::specs::Spelling::direction_text))]
+pub fn put_direction(direction: Direction, text: &mut Octets) -> Result<(), NoMemory>
+    ensures { OnOk result (text.new ≡ text.old ++ 32 ∷ direction_text direction) }
+{
+    let word = match direction {
+        Direction::Encrypt => " encrypt",
+        Direction::Decrypt => " decrypt",
     };
     write_word(word, text)
 }
@@ -174,4 +201,38 @@ pub fn put_uses(uses: u16, text: &mut Octets) -> Result<(), NoMemory>
 {
     text.push(b' ')?;
     put_four_digits(u32::from(uses), text)
+}
+
+// a space, and two digits
+pub fn put_byte(byte: u8, text: &mut Octets) -> Result<(), NoMemory>
+    ensures { OnOk result (text.new ≡ text.old ++ 32 ∷ word_text (byte_word byte)) }
+{
+    text.push(b' ')?;
+    text.push(hex_digit(byte / 16))?;
+    text.push(hex_digit(byte % 16))
+}
+
+// a space, and two digits for each byte, or `-` where there is none
+pub fn put_body(body: &Octets, text: &mut Octets) -> Result<(), NoMemory>
+    ensures { OnOk result (text.new ≡ text.old ++ 32 ∷ word_text (body_word body.now)) }
+{
+    match body.items() {
+        [] => write_word(" -", text),
+        bytes => put_bytes(bytes, text),
+    }
+}
+
+// a space, and the start value: `-`, a block, or a name, a colon and a block
+pub fn put_start(start: &Start, text: &mut Octets) -> Result<(), NoMemory>
+    ensures { OnOk result (text.new ≡ text.old ++ 32 ∷ word_text (start_word start.now)) }
+{
+    match start {
+        Start::Zero => write_word(" -", text),
+        Start::Clear(block) => put_bytes(&block.0, text),
+        Start::Sealed(name, block) => {
+            put_name(name, text)?;
+            text.push(b':')?;
+            put_byte_digits(&block.0, text)
+        }
+    }
 }

@@ -74,7 +74,7 @@ fn read_built(alloc: Global, bytes: &[u8]) -> Result<Line, LineFault>
 }
 
 /// What a line says, its bytes without the line feed. `Outside` exactly where no line is spelled so.
-/// It takes time in proportion to the line's length, and memory for the bytes of an import alone.
+/// It takes time in proportion to the line's length, and memory for the bytes of an import or of a crypt command alone.
 pub fn read_line(alloc: Global, line: &[u8]) -> Result<Line, LineFault>
     ensures found { IfOk result (λ l. Spells line.now l) }
     ensures outside { result ≡ Err Outside → (l : Line) → Spells line.now l → ⊥ }

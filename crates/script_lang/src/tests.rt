@@ -1,9 +1,10 @@
 use crate::{Line, LineFault, read_line, spelled_again, write_step, writing};
 use key_source::Key;
 use pad_steps::{
-    BlockRequest, Classes, Command, Form, ImportRequest, ImportSource, PinRequest, Step, Verify,
+    Algorithm, BlockRequest, Classes, Command, CryptRequest, Form, ImportRequest, ImportSource,
+    PinRequest, Start, Step, Verify,
 };
-use pad_words::{Digit, Octets};
+use pad_words::{Block, Digit, Direction, KeyName, Octets};
 use std::alloc::Global;
 use std::test::Fail;
 
@@ -12,6 +13,8 @@ const GETPIN: &str = "submit 1 0 getpin 4 16 hold 000F03FF00000000 0003000000000
 const IMPORT: &str = "submit 1 0 import PIN_KEY_1 clear 0123456789ABCDEF 0002 none";
 
 const PINBLOCK: &str = "submit 1 0 pinblock iso0 PIN_KEY_1 - - 123456789012 F";
+
+const CRYPT: &str = "submit 1 0 crypt cbc decrypt DATA_KEY START_KEY:FEDCBA9876543210 A5 0123FF";
 
 // whether the line is outside the grammar
 fn is_outside(alloc: Global, line: &[u8]) -> bool {
@@ -33,8 +36,26 @@ fn lines_are_read_and_printed_again(rt: HostRuntime) -> Result<(), Fail> {
         IMPORT,
         "submit 1 0 import A clear FEDCBA9876543210 0002 none",
         "submit 1 0 import ABCDEFGHIJKLMNOPQRSTUVWXYZ_01234 clear 0000000000000000 0002 none",
+        "submit 1 0 import P clear 0123456789ABCDEFFEDCBA9876543210 0002 none",
+        "submit 1 0 import P clear 0123456789ABCDEFFEDCBA9876543210001122334455AABB 0002 none",
+        "submit 1 0 import P clear 0123456789ABCDEF 0001 none",
+        "submit 1 0 import P clear 0123456789ABCDEF 0003 none",
+        "submit 1 0 import P clear 0123456789ABCDEF 0004 none",
+        "submit 1 0 import P clear 0123456789ABCDEF 0007 none",
+        "submit 1 0 import P clear 0123456789ABCDEF 0020 none",
+        "submit 1 0 import P clear 0123456789ABCDEF 0027 none",
         PINBLOCK,
         "submit 1 0 pinblock iso0 ABCDEFGHIJKLMNOPQRSTUVWXYZ_56789 - - 1234567890123456789 0",
+        CRYPT,
+        "submit 1 0 crypt ecb encrypt K - 00 -",
+        "submit 1 0 crypt ecb decrypt K - FF 00",
+        "submit 1 0 crypt cbc encrypt K 0123456789ABCDEF 0F 0123456789ABCDEF",
+        "submit 1 0 crypt cfb encrypt K 0000000000000000 F0 -",
+        "submit 1 0 crypt cfb decrypt K _9:0000000000000000 20 FF",
+        "submit 1 0 crypt mac encrypt K FFFFFFFFFFFFFFFF 80 A5",
+        "submit 1 0 crypt mac decrypt K - 00 0001020304050607",
+        "submit 1 0 crypt retail encrypt K ABCDEFGHIJKLMNOPQRSTUVWXYZ_01234:0123456789ABCDEF 00 5A",
+        "submit 1 0 crypt retail decrypt ABCDEFGHIJKLMNOPQRSTUVWXYZ_56789 A:0123456789ABCDEF 01 -",
         "press 0",
         "press 7",
         "press 9",
@@ -91,6 +112,73 @@ fn block_of(command: &Command) -> Option<&BlockRequest> {
         Command::Pin(PinRequest::Block(request)) => Some(request),
         _ => None,
     }
+}
+
+// the request of a crypt command
+fn crypt_of(command: &Command) -> Option<&CryptRequest> {
+    match command {
+        Command::Crypt(request) => Some(request),
+        _ => None,
+    }
+}
+
+// the name and the block of a start value that is sealed
+fn sealed_start(start: &Start) -> Option<(&KeyName, &Block)> {
+    match start {
+        Start::Sealed(name, block) => Some((name, block)),
+        _ => None,
+    }
+}
+
+// a crypt command has the values of its fields
+#[test]
+fn crypts_have_their_fields(rt: HostRuntime) -> Result<(), Fail> {
+    let alloc = rt.alloc();
+    let line = read_line(alloc, CRYPT.as_bytes()).ok().ok_or("crypt")?;
+    let command = command_of(&line).ok_or("crypt")?;
+    let crypt = crypt_of(command).ok_or("crypt")?;
+    let (name, block) = sealed_start(&crypt.start).ok_or("start")?;
+    let bytes = [0xFE, 0xDC, 0xBA, 0x98, 0x76, 0x54, 0x32, 0x10];
+    assert!(rt; crypt.algorithm == Algorithm::Cbc);
+    assert!(rt; crypt.direction == Direction::Decrypt);
+    assert!(rt; crypt.key.text() == "DATA_KEY".as_bytes());
+    assert!(rt; name.text() == "START_KEY".as_bytes());
+    assert!(rt; *block == Block(bytes));
+    assert!(rt; crypt.pad == 0xA5);
+    assert!(rt; crypt.body.items() == [0x01, 0x23, 0xFF].as_slice());
+    Ok(())
+}
+
+// a crypt command with so many digits behind its padding byte
+fn crypt_line(alloc: Global, digits: u32) -> Result<Octets, Fail> {
+    let mut line = Octets::copy(alloc, "submit 1 0 crypt cbc encrypt K - 00 ".as_bytes())?;
+    for _ in 0..digits {
+        line.push(b'7')?;
+    }
+    Ok(line)
+}
+
+// 1,024 bytes are the most
+#[test]
+fn bodies_are_bounded(rt: HostRuntime) -> Result<(), Fail> {
+    let alloc = rt.alloc();
+    for digits in [2, 256, 2046, 2048] {
+        let line = crypt_line(alloc, digits)?;
+        let mut text = Octets::empty(alloc);
+        match read_line(alloc, line.items()) {
+            Ok(Line::Do(step)) => write_step(alloc, &step, false, &mut text)?,
+            _ => assert!(rt; false, "{digits} digits are no step"),
+        }
+        assert!(rt;
+            text.items() == line.items(),
+            "{digits} digits are printed otherwise"
+        );
+    }
+    for digits in [0, 1, 2047, 2049, 2050, 4096, 1_000_000] {
+        let line = crypt_line(alloc, digits)?;
+        assert!(rt; is_outside(alloc, line.items()), "{digits} digits are read");
+    }
+    Ok(())
 }
 
 // a command has the values of its fields
@@ -226,11 +314,22 @@ fn other_imports_are_outside(rt: HostRuntime) -> Result<(), Fail> {
         "submit 1 0 import P clear 0123456789ABCDE 0002 none",
         "submit 1 0 import P clear 0123456789ABCDEF0 0002 none",
         "submit 1 0 import P clear 0123456789ABCDEF01 0002 none",
-        "submit 1 0 import P clear 0123456789ABCDEF0123456789ABCDEF 0002 none",
+        "submit 1 0 import P clear 0123456789ABCD 0002 none",
+        "submit 1 0 import P clear 0123456789ABCDEF01234567 0002 none",
+        "submit 1 0 import P clear 0123456789ABCDEF0123456789ABCDEF0 0002 none",
+        "submit 1 0 import P clear 0123456789ABCDEF0123456789ABCDEF0123456789ABCDEF01 0002 none",
+        "submit 1 0 import P clear 0123456789ABCDEF0123456789ABCDEF0123456789ABCDEF0123456789ABCDEF 0002 none",
         "submit 1 0 import P clear 0123456789abcdef 0002 none",
         "submit 1 0 import P clear 0123456789ABCDEG 0002 none",
-        "submit 1 0 import P clear 0123456789ABCDEF 0001 none",
-        "submit 1 0 import P clear 0123456789ABCDEF 0003 none",
+        "submit 1 0 import P clear 0123456789ABCDEF 0000 none",
+        "submit 1 0 import P clear 0123456789ABCDEF 0008 none",
+        "submit 1 0 import P clear 0123456789ABCDEF 000A none",
+        "submit 1 0 import P clear 0123456789ABCDEF 0010 none",
+        "submit 1 0 import P clear 0123456789ABCDEF 0012 none",
+        "submit 1 0 import P clear 0123456789ABCDEF 0040 none",
+        "submit 1 0 import P clear 0123456789ABCDEF 0042 none",
+        "submit 1 0 import P clear 0123456789ABCDEF 0100 none",
+        "submit 1 0 import P clear 0123456789ABCDEF 0102 none",
         "submit 1 0 import P clear 0123456789ABCDEF 002 none",
         "submit 1 0 import P clear 0123456789ABCDEF 00002 none",
         "submit 1 0 import P clear 0123456789ABCDEF 2 none",
@@ -294,6 +393,70 @@ fn other_blocks_are_outside(rt: HostRuntime) -> Result<(), Fail> {
         "submit 1 0 pinblock iso0 P - - 123456789012 0 0",
         "submit 1 1 pinblock iso0 P - - 123456789012 0",
         "submit 2 0 pinblock iso0 P - - 123456789012 0",
+    ];
+    for line in lines {
+        assert!(rt; is_outside(alloc, line.as_bytes()), "{line} is read");
+    }
+    Ok(())
+}
+
+// a crypt command that differs in one field is outside the grammar
+#[test]
+fn other_crypts_are_outside(rt: HostRuntime) -> Result<(), Fail> {
+    let alloc = rt.alloc();
+    let lines = [
+        "submit 1 0 crypt",
+        "submit 1 0 crypt cbc encrypt K - 00",
+        "submit 1 0 crypt cbc encrypt K - 00 ",
+        "submit 1 0 crypt cbc encrypt K - 00 01 ",
+        "submit 1 0 crypt cbc encrypt K - 00 01 02",
+        "submit 1 0 crypt cbc encrypt K - 00 - -",
+        "submit 1 0 crypt cbc encrypt K - 00  01",
+        "submit 1 0 crypt ofb encrypt K - 00 01",
+        "submit 1 0 crypt CBC encrypt K - 00 01",
+        "submit 1 0 crypt cbcmac encrypt K - 00 01",
+        "submit 1 0 crypt  encrypt K - 00 01",
+        "submit 1 0 crypt cbc both K - 00 01",
+        "submit 1 0 crypt cbc Encrypt K - 00 01",
+        "submit 1 0 crypt cbc K - 00 01",
+        "submit 1 0 crypt cbc encrypt k - 00 01",
+        "submit 1 0 crypt cbc encrypt - - 00 01",
+        "submit 1 0 crypt cbc encrypt  - 00 01",
+        "submit 1 0 crypt cbc encrypt ABCDEFGHIJKLMNOPQRSTUVWXYZ_012345 - 00 01",
+        "submit 1 0 crypt cbc encrypt K 00 01",
+        "submit 1 0 crypt cbc encrypt K -- 00 01",
+        "submit 1 0 crypt cbc encrypt K 0123456789ABCDE 00 01",
+        "submit 1 0 crypt cbc encrypt K 0123456789ABCDEF0 00 01",
+        "submit 1 0 crypt cbc encrypt K 0123456789abcdef 00 01",
+        "submit 1 0 crypt cbc encrypt K 0123456789ABCDEG 00 01",
+        "submit 1 0 crypt cbc encrypt K START 00 01",
+        "submit 1 0 crypt cbc encrypt K S: 00 01",
+        "submit 1 0 crypt cbc encrypt K S:- 00 01",
+        "submit 1 0 crypt cbc encrypt K S:0123456789ABCDE 00 01",
+        "submit 1 0 crypt cbc encrypt K S:0123456789ABCDEF0 00 01",
+        "submit 1 0 crypt cbc encrypt K S:0123456789abcdef 00 01",
+        "submit 1 0 crypt cbc encrypt K :0123456789ABCDEF 00 01",
+        "submit 1 0 crypt cbc encrypt K -:0123456789ABCDEF 00 01",
+        "submit 1 0 crypt cbc encrypt K s:0123456789ABCDEF 00 01",
+        "submit 1 0 crypt cbc encrypt K S::0123456789ABCDEF 00 01",
+        "submit 1 0 crypt cbc encrypt K S:T:0123456789ABCDEF 00 01",
+        "submit 1 0 crypt cbc encrypt K S:0123456789ABCDEF: 00 01",
+        "submit 1 0 crypt cbc encrypt K S 0123456789ABCDEF 00 01",
+        "submit 1 0 crypt cbc encrypt K S: 0123456789ABCDEF 00 01",
+        "submit 1 0 crypt cbc encrypt K ABCDEFGHIJKLMNOPQRSTUVWXYZ_012345:0123456789ABCDEF 00 01",
+        "submit 1 0 crypt cbc encrypt K - 0 01",
+        "submit 1 0 crypt cbc encrypt K - 000 01",
+        "submit 1 0 crypt cbc encrypt K - ff 01",
+        "submit 1 0 crypt cbc encrypt K - 0G 01",
+        "submit 1 0 crypt cbc encrypt K - - 01",
+        "submit 1 0 crypt cbc encrypt K - 00 0",
+        "submit 1 0 crypt cbc encrypt K - 00 012",
+        "submit 1 0 crypt cbc encrypt K - 00 0a",
+        "submit 1 0 crypt cbc encrypt K - 00 0G",
+        "submit 1 0 crypt cbc encrypt K - 00 --",
+        "submit 1 1 crypt cbc encrypt K - 00 01",
+        "submit 2 0 crypt cbc encrypt K - 00 01",
+        "submit 1 0 Crypt cbc encrypt K - 00 01",
     ];
     for line in lines {
         assert!(rt; is_outside(alloc, line.as_bytes()), "{line} is read");

@@ -1,9 +1,10 @@
 //! Words of few values.
 ghost use Rattle.std.specs.Prelude.{◌≡◌};
-ghost use Rattle.script_lang.specs.Reading.{read_end, read_classes, read_verify, read_form};
+ghost use Rattle.script_lang.specs.Reading.{read_end, read_classes, read_verify, read_form, read_algorithm, read_direction};
 
 use crate::cutting::is;
-use pad_steps::{Classes, Form, Verify};
+use pad_steps::{Algorithm, Classes, Form, Verify};
+use pad_words::Direction;
 
 // whether an entry ends by itself at its greatest length
 #[tactic(auto, unfolding(crate::specs::Reading::read_end))]
@@ -75,6 +76,40 @@ pub fn read_form(word: &[u8]) -> Option<Form>
         Some(Form::Diebold)
     } else if is(word, "dieboldco") {
         Some(Form::DieboldCo)
+    } else {
+        None
+    }
+}
+
+// the algorithm of a crypt command
+#[tactic(auto, unfolding(crate::specs::Reading::read_algorithm))]
+pub fn read_algorithm(word: &[u8]) -> Option<Algorithm>
+    ensures { result ≡ read_algorithm word.now }
+{
+    if is(word, "ecb") {
+        Some(Algorithm::Ecb)
+    } else if is(word, "cbc") {
+        Some(Algorithm::Cbc)
+    } else if is(word, "cfb") {
+        Some(Algorithm::Cfb)
+    } else if is(word, "mac") {
+        Some(Algorithm::Mac)
+    } else if is(word, "retail") {
+        Some(Algorithm::Retail)
+    } else {
+        None
+    }
+}
+
+// whether to encrypt or to decrypt
+#[tactic(auto, unfolding(crate::specs::Reading::read_direction))]
+pub fn read_direction(word: &[u8]) -> Option<Direction>
+    ensures { result ≡ read_direction word.now }
+{
+    if is(word, "encrypt") {
+        Some(Direction::Encrypt)
+    } else if is(word, "decrypt") {
+        Some(Direction::Decrypt)
     } else {
         None
     }
