@@ -1,17 +1,21 @@
--- Keys as rows of the machine: where a name stands, which slot is empty, and a row put in.
-use Rattle.std.proofs.Common.{ap, arith, set, ◌∙◌}
+-- Rows in slots counted up: where a name stands, which slot is empty, and a row put in.
+use Rattle.std.proofs.Common.{ap, arith, set, sym, ◌∙◌}
 use Rattle.pad_words.specs.Names.{is_key_name}
-use Rattle.std.proofs.lemmas.Bool.{eqb-true, ltb-false, ltb-true}
+use Rattle.std.proofs.lemmas.Bool.{ltb-false, ltb-true}
 use Rattle.std.proofs.lemmas.Bool.Decides.{nat_tests}
-use Rattle.std.specs.Prelude.{Bool, IsTrue, List, None, Option, Some, [], bytes_eq, false, if◌then◌else◌, length, nat_lt, not, refl, slice_index_or, suc, true, zero, ℕ, ◌&&◌, ◌++◌, ◌+◌, ◌<◌, ◌==◌, ◌∷◌, ◌≡◌, ◌≤◌}
+use Rattle.std.specs.List.{list_all}
+use Rattle.std.specs.Prelude.{Bool, IsTrue, List, None, Option, Some, [], bytes_eq, false, if◌then◌else◌, length, nat_lt, not, refl, slice_index_or, suc, true, zero, ℕ, ◌&&◌, ◌||◌, ◌++◌, ◌+◌, ◌<◌, ◌==◌, ◌∷◌, ◌≡◌, ◌≤◌}
 use Rattle.flat_machine.specs.Ciphers.{Ciphers}
 use Rattle.flat_machine.specs.Decisions.{Goes, Stops}
 use Rattle.flat_machine.specs.Imports.{decide_import, duplicate, given_bytes, placed, unfinished}
-use Rattle.flat_machine.specs.KeyRows.{KeyRows, empty_slot, find_key, slot_taken, with_row}
+use Rattle.flat_machine.specs.KeyRows.{KeyRows, empty_slot, find_key, permit, permit_row, slot_taken, with_row}
+use Rattle.key_attributes.specs.UseBits.{allows as allows_use, forbids_duplicates, under_construction, uses_valid}
 use Rattle.key_attributes.specs.declared.KeyRow.{KeyRow}
-use Rattle.pad_machine.specs.Keys.{key_row, place_named, rows_from}
-use Rattle.pad_machine.specs.declared.keys.NamedKey.{NamedKey}
-use Rattle.pad_steps.specs.Formed.{all_bytes, is_built_import, is_built_source, is_unchecked}
+use Rattle.key_attributes.specs.declared.Use.{Use}
+use Rattle.key_attributes.specs.declared.Use.TheVariants as purpose
+use Rattle.pad_machine.specs.Decided.{slot_decided}
+use Rattle.pad_machine.specs.Keys.{is_plain, place_named, rows_from}
+use Rattle.pad_steps.specs.Formed.{all_bytes, is_built_import, is_built_source, is_built_uses, is_key_length, is_unchecked}
 use Rattle.pad_steps.specs.declared.answers.Refusal.TheVariants as refusals
 use Rattle.pad_steps.specs.declared.commands.ImportRequest.{ImportRequest}
 use Rattle.pad_steps.specs.declared.commands.ImportSource.{ImportSource}
@@ -41,138 +45,182 @@ ltb-self a = grind (arith, nat_tests)
 ltb-more : (a b : ℕ) → b < a → nat_lt a b ≡ false
 ltb-more a b more = grind (arith, nat_tests)
 
--- there is a row for each key
-pub length-rows_from : (slot : ℕ) (keys : List NamedKey) → length (rows_from slot keys) ≡ length keys
+-- each row has a slot
+pub length-rows_from : (slot : ℕ) (rows : List KeyRow) → length (rows_from slot rows) ≡ length rows
 length-rows_from slot [] = refl
-length-rows_from slot (key ∷ keys) = ap (λ (n : ℕ). suc n) (length-rows_from (suc slot) keys)
+length-rows_from slot (row ∷ rows) = ap (λ (n : ℕ). suc n) (length-rows_from (suc slot) rows)
 
 -- the name is found at its place
-found-if : (b : Bool) (slot place : ℕ) (key : NamedKey) (keys : List NamedKey) (other : NamedKey) (rest : Option (ℕ × KeyRow))
-    → (b ≡ false → place < length keys → rest ≡ Some (place + suc slot, key_row (slice_index_or keys place other)))
-    → (if b then 0 else suc place) < length (key ∷ keys)
-    → (if b then Some (slot, key_row key) else rest) ≡ Some ((if b then 0 else suc place) + slot, key_row (slice_index_or (key ∷ keys) (if b then 0 else suc place) other))
-found-if true slot place key keys other rest later within = let here : slot ≡ 0 + slot = omega arith in ap (λ (n : ℕ). Some (n, key_row key)) here
-found-if false slot place key keys other rest later within =
+found-if : (b : Bool) (slot place : ℕ) (row : KeyRow) (rows : List KeyRow) (other : KeyRow) (rest : Option (ℕ × KeyRow))
+    → (b ≡ false → place < length rows → rest ≡ Some (place + suc slot, slice_index_or rows place other))
+    → (if b then 0 else suc place) < length (row ∷ rows)
+    → (if b then Some (slot, row) else rest) ≡ Some ((if b then 0 else suc place) + slot, slice_index_or (row ∷ rows) (if b then 0 else suc place) other)
+found-if true slot place row rows other rest later within = let here : slot ≡ 0 + slot = omega arith in ap (λ (n : ℕ). Some (n, row)) here
+found-if false slot place row rows other rest later within =
     let here : place + suc slot ≡ suc place + slot = omega arith in
-    later refl (omega (arith, within)) ∙ ap (λ (n : ℕ). Some (n, key_row (slice_index_or keys place other))) here
+    later refl (omega (arith, within)) ∙ ap (λ (n : ℕ). Some (n, slice_index_or rows place other)) here
 
-pub find_key-there : (name : List ℕ) (slot : ℕ) (keys : List NamedKey) (other : NamedKey) → place_named name keys < length keys
-    → find_key name (rows_from slot keys) ≡ Some (place_named name keys + slot, key_row (slice_index_or keys (place_named name keys) other))
+pub find_key-there : (name : List ℕ) (slot : ℕ) (rows : List KeyRow) (other : KeyRow) → place_named name rows < length rows
+    → find_key name (rows_from slot rows) ≡ Some (place_named name rows + slot, slice_index_or rows (place_named name rows) other)
 find_key-there name slot [] other within = absurd (omega (arith, within))
-find_key-there name slot (key ∷ keys) other within =
-    found-if (bytes_eq key.name name) slot (place_named name keys) key keys other (find_key name (rows_from (suc slot) keys)) (λ differs there. find_key-there name (suc slot) keys other there) within
+find_key-there name slot (row ∷ rows) other within =
+    found-if (bytes_eq row.name name) slot (place_named name rows) row rows other (find_key name (rows_from (suc slot) rows)) (λ differs there. find_key-there name (suc slot) rows other there) within
 
 -- an absent name is not found
 absent-if : (b : Bool) (place count : ℕ) (first rest : Option (ℕ × KeyRow)) → (count ≤ place → rest ≡ None) → suc count ≤ (if b then 0 else suc place) → (if b then first else rest) ≡ None
 absent-if true place count first rest later beyond = absurd (omega (arith, beyond))
 absent-if false place count first rest later beyond = later (omega (arith, beyond))
 
-pub find_key-absent : (name : List ℕ) (slot : ℕ) (keys : List NamedKey) → length keys ≤ place_named name keys → find_key name (rows_from slot keys) ≡ None
+pub find_key-absent : (name : List ℕ) (slot : ℕ) (rows : List KeyRow) → length rows ≤ place_named name rows → find_key name (rows_from slot rows) ≡ None
 find_key-absent name slot [] beyond = refl
-find_key-absent name slot (key ∷ keys) beyond =
-    absent-if (bytes_eq key.name name) (place_named name keys) (length keys) (Some (slot, key_row key)) (find_key name (rows_from (suc slot) keys)) (find_key-absent name (suc slot) keys) beyond
+find_key-absent name slot (row ∷ rows) beyond =
+    absent-if (bytes_eq row.name name) (place_named name rows) (length rows) (Some (slot, row)) (find_key name (rows_from (suc slot) rows)) (find_key-absent name (suc slot) rows) beyond
 
--- no key is under construction
-unfinished-if : (b : Bool) (slot : ℕ) (key : NamedKey) (rest : Option (ℕ × KeyRow)) → unfinished rest ≡ None → unfinished (if b then Some (slot, key_row key) else rest) ≡ None
-unfinished-if true slot key rest none = refl
-unfinished-if false slot key rest none = none
+-- parts of a test of a row
+plain-parts : (a b : Bool) → IsTrue (not a && not b) → (a ≡ false) × (b ≡ false)
+plain-parts false false holds = (refl, refl)
+plain-parts false true holds = cc
+plain-parts true b holds = cc
 
-pub unfinished-none : (name : List ℕ) (slot : ℕ) (keys : List NamedKey) → unfinished (find_key name (rows_from slot keys)) ≡ None
-unfinished-none name slot [] = refl
-unfinished-none name slot (key ∷ keys) = unfinished-if (bytes_eq key.name name) slot key (find_key name (rows_from (suc slot) keys)) (unfinished-none name (suc slot) keys)
+and_right : (a b : Bool) → IsTrue (a && b) → IsTrue b
+and_right true b holds = holds
+and_right false b holds = cc
 
--- no key forbids another of the same value
-both-false : (a b c : Bool) → (a && b && c && false) ≡ false
-both-false true true true = refl
-both-false true true false = refl
-both-false true false c = refl
-both-false false b c = refl
+first-plain : (row : KeyRow) (rows : List KeyRow) → IsTrue (list_all is_plain (row ∷ rows)) → (under_construction row.uses ≡ false) × (forbids_duplicates row.uses ≡ false)
+first-plain row rows plain = plain-parts (under_construction row.uses) (forbids_duplicates row.uses) (and_left (is_plain row) (list_all is_plain rows) plain)
 
-pub duplicate-none : (name value : List ℕ) (slot : ℕ) (keys : List NamedKey) → duplicate (record { name = name; value = value; uses = 2 }) (rows_from slot keys) ≡ None
-duplicate-none name value slot [] = refl
-duplicate-none name value slot (key ∷ keys) = rw (both-false (not (bytes_eq key.name name)) true (bytes_eq key.value.0 value)) (duplicate-none name value (suc slot) keys)
+-- no row is under construction
+unfinished-if : (b : Bool) (slot : ℕ) (row : KeyRow) (rest : Option (ℕ × KeyRow)) → under_construction row.uses ≡ false → unfinished rest ≡ None → unfinished (if b then Some (slot, row) else rest) ≡ None
+unfinished-if true slot row rest complete none = rw complete refl
+unfinished-if false slot row rest complete none = none
 
--- the slots of the keys are taken, and those above are empty
-taken : (slot first : ℕ) (keys : List NamedKey) → first ≤ slot → slot < first + length keys → slot_taken slot (rows_from first keys) ≡ true
+pub unfinished-none : (name : List ℕ) (slot : ℕ) (rows : List KeyRow) → IsTrue (list_all is_plain rows) → unfinished (find_key name (rows_from slot rows)) ≡ None
+unfinished-none name slot [] plain = refl
+unfinished-none name slot (row ∷ rows) plain =
+    unfinished-if (bytes_eq row.name name) slot row (find_key name (rows_from (suc slot) rows)) (first-plain row rows plain).0 (unfinished-none name (suc slot) rows (and_right (is_plain row) (list_all is_plain rows) plain))
+
+-- no row forbids another of the same value
+all-false : (a b c d e f : Bool) → e ≡ false → f ≡ false → (a && (b && c && d && (e || f))) ≡ false
+all-false true true true true e f one other = rw (one, other) refl
+all-false true true true false e f one other = refl
+all-false true true false d e f one other = refl
+all-false true false c d e f one other = refl
+all-false false b c d e f one other = refl
+
+pub duplicate-none : (new : KeyRow) (slot : ℕ) (rows : List KeyRow) → IsTrue (list_all is_plain rows) → forbids_duplicates new.uses ≡ false → duplicate new (rows_from slot rows) ≡ None
+duplicate-none new slot [] plain allows = refl
+duplicate-none new slot (row ∷ rows) plain allows =
+    rw (all-false (not (under_construction new.uses)) (not (bytes_eq row.name new.name)) (not (under_construction row.uses)) (bytes_eq row.value new.value) (forbids_duplicates row.uses) (forbids_duplicates new.uses) (first-plain row rows plain).1 allows)
+    (duplicate-none new (suc slot) rows (and_right (is_plain row) (list_all is_plain rows) plain) allows)
+
+-- the slots of the rows are taken, and those above are empty
+taken : (slot first : ℕ) (rows : List KeyRow) → first ≤ slot → slot < first + length rows → slot_taken slot (rows_from first rows) ≡ true
 taken slot first [] least most = absurd (omega (arith, least, most))
-taken slot first (key ∷ keys) least most = taken-if (first == slot) refl (λ later. taken slot (suc first) keys later (omega (arith, most)))
+taken slot first (row ∷ rows) least most = taken-if (first == slot) refl (λ later. taken slot (suc first) rows later (omega (arith, most)))
   where
-    taken-if : (b : Bool) → (first == slot) ≡ b → (suc first ≤ slot → slot_taken slot (rows_from (suc first) keys) ≡ true) → slot_taken slot (rows_from first (key ∷ keys)) ≡ true
+    taken-if : (b : Bool) → (first == slot) ≡ b → (suc first ≤ slot → slot_taken slot (rows_from (suc first) rows) ≡ true) → slot_taken slot (rows_from first (row ∷ rows)) ≡ true
     taken-if true is later = rw is refl
     taken-if false is later = rw is (later (eqb-later first slot least is))
 
-untaken : (slot first : ℕ) (keys : List NamedKey) → first + length keys ≤ slot → slot_taken slot (rows_from first keys) ≡ false
+untaken : (slot first : ℕ) (rows : List KeyRow) → first + length rows ≤ slot → slot_taken slot (rows_from first rows) ≡ false
 untaken slot first [] above = refl
-untaken slot first (key ∷ keys) above = rw (eqb-less first slot (omega (arith, above))) (untaken slot (suc first) keys (omega (arith, above)))
+untaken slot first (row ∷ rows) above = rw (eqb-less first slot (omega (arith, above))) (untaken slot (suc first) rows (omega (arith, above)))
 
-pub empty_slot-next : (slot count : ℕ) (keys : List NamedKey) → slot ≤ length keys → length keys < slot + count → empty_slot slot count (rows_from 0 keys) ≡ Some (length keys)
-empty_slot-next slot zero keys least most = absurd (omega (arith, least, most))
-empty_slot-next slot (suc count) keys least most = next-if (nat_lt slot (length keys)) refl (λ below. empty_slot-next (slot + 1) count keys (omega (arith, below)) (omega (arith, most)))
+pub empty_slot-next : (slot count : ℕ) (rows : List KeyRow) → slot ≤ length rows → length rows < slot + count → empty_slot slot count (rows_from 0 rows) ≡ Some (length rows)
+empty_slot-next slot zero rows least most = absurd (omega (arith, least, most))
+empty_slot-next slot (suc count) rows least most = next-if (nat_lt slot (length rows)) refl (λ below. empty_slot-next (slot + 1) count rows (omega (arith, below)) (omega (arith, most)))
   where
-    next-if : (b : Bool) → nat_lt slot (length keys) ≡ b → (slot < length keys → empty_slot (slot + 1) count (rows_from 0 keys) ≡ Some (length keys)) → empty_slot slot (suc count) (rows_from 0 keys) ≡ Some (length keys)
-    next-if true is later = rw (taken slot 0 keys (omega arith) (omega (arith, ltb-true slot (length keys) is))) (later (ltb-true slot (length keys) is))
+    next-if : (b : Bool) → nat_lt slot (length rows) ≡ b → (slot < length rows → empty_slot (slot + 1) count (rows_from 0 rows) ≡ Some (length rows)) → empty_slot slot (suc count) (rows_from 0 rows) ≡ Some (length rows)
+    next-if true is later = rw (taken slot 0 rows (omega arith) (omega (arith, ltb-true slot (length rows) is))) (later (ltb-true slot (length rows) is))
     next-if false is later =
-        let same : slot ≡ length keys = omega (arith, least, ltb-false slot (length keys) is) in
-        rw (untaken slot 0 keys (omega (arith, same))) (ap (λ (n : ℕ). Some n) same)
+        let same : slot ≡ length rows = omega (arith, least, ltb-false slot (length rows) is) in
+        rw (untaken slot 0 rows (omega (arith, same))) (ap (λ (n : ℕ). Some n) same)
 
-pub empty_slot-none : (slot count : ℕ) (keys : List NamedKey) → slot + count ≤ length keys → empty_slot slot count (rows_from 0 keys) ≡ None
-empty_slot-none slot zero keys full = refl
-empty_slot-none slot (suc count) keys full = rw (taken slot 0 keys (omega arith) (omega (arith, full))) (empty_slot-none (slot + 1) count keys (omega (arith, full)))
+pub empty_slot-none : (slot count : ℕ) (rows : List KeyRow) → slot + count ≤ length rows → empty_slot slot count (rows_from 0 rows) ≡ None
+empty_slot-none slot zero rows full = refl
+empty_slot-none slot (suc count) rows full = rw (taken slot 0 rows (omega arith) (omega (arith, full))) (empty_slot-none (slot + 1) count rows (omega (arith, full)))
 
--- a key put over another, and a key put last
-row-after : (at slot : ℕ) (new key : NamedKey) (before after : KeyRows) → slot < at → after ≡ with_row at (key_row new) before → (slot, key_row key) ∷ after ≡ with_row at (key_row new) ((slot, key_row key) ∷ before)
-row-after at slot new key before after more is = rw (ltb-more at slot more, eqb-more at slot more) (ap (λ (rest : KeyRows). (slot, key_row key) ∷ rest) is)
+-- a row put over another, and a row put last
+row-after : (at slot : ℕ) (new row : KeyRow) (before after : KeyRows) → slot < at → after ≡ with_row at new before → (slot, row) ∷ after ≡ with_row at new ((slot, row) ∷ before)
+row-after at slot new row before after more is = rw (ltb-more at slot more, eqb-more at slot more) (ap (λ (rest : KeyRows). (slot, row) ∷ rest) is)
 
-row-here : (at slot : ℕ) (new key : NamedKey) (rows : KeyRows) → at ≡ slot → (slot, key_row new) ∷ rows ≡ with_row at (key_row new) ((slot, key_row key) ∷ rows)
-row-here at slot new key rows same = rw (same, ltb-self slot, eqb-self slot) refl
+row-here : (at slot : ℕ) (new row : KeyRow) (rows : KeyRows) → at ≡ slot → (slot, new) ∷ rows ≡ with_row at new ((slot, row) ∷ rows)
+row-here at slot new row rows same = rw (same, ltb-self slot, eqb-self slot) refl
 
-pub with_row-over : (place slot at : ℕ) (keys : List NamedKey) (new : NamedKey) → at ≡ place + slot → place < length keys → rows_from slot (set keys place new) ≡ with_row at (key_row new) (rows_from slot keys)
+pub with_row-over : (place slot at : ℕ) (rows : List KeyRow) (new : KeyRow) → at ≡ place + slot → place < length rows → rows_from slot (set rows place new) ≡ with_row at new (rows_from slot rows)
 with_row-over place slot at [] new is within = absurd (omega (arith, within))
-with_row-over zero slot at (key ∷ keys) new is within = row-here at slot new key (rows_from (suc slot) keys) (omega (arith, is))
-with_row-over (suc place) slot at (key ∷ keys) new is within =
-    row-after at slot new key (rows_from (suc slot) keys) (rows_from (suc slot) (set keys place new)) (omega (arith, is)) (with_row-over place (suc slot) at keys new (omega (arith, is)) (omega (arith, within)))
+with_row-over zero slot at (row ∷ rows) new is within = row-here at slot new row (rows_from (suc slot) rows) (omega (arith, is))
+with_row-over (suc place) slot at (row ∷ rows) new is within =
+    row-after at slot new row (rows_from (suc slot) rows) (rows_from (suc slot) (set rows place new)) (omega (arith, is)) (with_row-over place (suc slot) at rows new (omega (arith, is)) (omega (arith, within)))
 
-pub with_row-last : (slot at : ℕ) (keys : List NamedKey) (new : NamedKey) → at ≡ length keys + slot → rows_from slot (keys ++ new ∷ []) ≡ with_row at (key_row new) (rows_from slot keys)
-with_row-last slot at [] new is = let here : slot ≡ at = omega (arith, is) in ap (λ (n : ℕ). (n, key_row new) ∷ []) here
-with_row-last slot at (key ∷ keys) new is =
-    row-after at slot new key (rows_from (suc slot) keys) (rows_from (suc slot) (keys ++ new ∷ [])) (omega (arith, is)) (with_row-last (suc slot) at keys new (omega (arith, is)))
+pub with_row-last : (slot at : ℕ) (rows : List KeyRow) (new : KeyRow) → at ≡ length rows + slot → rows_from slot (rows ++ new ∷ []) ≡ with_row at new (rows_from slot rows)
+with_row-last slot at [] new is = let here : slot ≡ at = omega (arith, is) in ap (λ (n : ℕ). (n, new) ∷ []) here
+with_row-last slot at (row ∷ rows) new is =
+    row-after at slot new row (rows_from (suc slot) rows) (rows_from (suc slot) (rows ++ new ∷ [])) (omega (arith, is)) (with_row-last (suc slot) at rows new (omega (arith, is)))
 
--- what an import of eight bytes in clear comes to, but for its slot
-pub decide_import-built : (cipher : Ciphers) (keys : List NamedKey) (name : List ℕ) (source : ImportSource) (uses : ℕ) (verify : Verify) → IsTrue (is_built_source source) → uses ≡ 2
-    → decide_import cipher (rows_from 0 keys) [] (record { name = name; source = source; uses = uses; verify = verify })
-    ≡ placed (rows_from 0 keys) (record { name = name; value = given_bytes [] source; uses = 2 }) (find_key name (rows_from 0 keys))
-decide_import-built cipher keys name (origin.Clear value) uses verify built is =
-    let long : (length value == 8) ≡ true = and_left (length value == 8) (all_bytes value) built in
-    rw (is, unfinished-none name 0 keys, long, duplicate-none name value 0 keys) refl
-decide_import-built cipher keys name (origin.Sealed sealing value) uses verify built is = absurd cc
-decide_import-built cipher keys name origin.Part uses verify built is = absurd cc
+-- the slot of a new row of a name: none, the next, or that of the name
+pub placed-full : (rows : List KeyRow) (new : KeyRow) (name : List ℕ) (place : ℕ) → place ≡ place_named name rows → place ≡ length rows → 64 ≤ place → placed (rows_from 0 rows) new (find_key name (rows_from 0 rows)) ≡ Stops refusals.TableFull None
+placed-full rows new name place is last full = rw (find_key-absent name 0 rows (omega (arith, is, last)), empty_slot-none 0 64 rows (omega (arith, last, full))) refl
 
+pub placed-next : (rows : List KeyRow) (new : KeyRow) (name : List ℕ) (place : ℕ) → place ≡ place_named name rows → place ≡ length rows → place < 64 → placed (rows_from 0 rows) new (find_key name (rows_from 0 rows)) ≡ Goes (place, new)
+placed-next rows new name place is last room = rw (find_key-absent name 0 rows (omega (arith, is, last)), empty_slot-next 0 64 rows (omega arith) (omega (arith, last, room)), last) refl
+
+pub placed-present : (rows : List KeyRow) (new : KeyRow) (name : List ℕ) (place : ℕ) → place ≡ place_named name rows → place < length rows → placed (rows_from 0 rows) new (find_key name (rows_from 0 rows)) ≡ Goes (place, new)
+placed-present rows new name place is within =
+    let same : place_named name rows + 0 ≡ place = omega (arith, is) in
+    rw (find_key-there name 0 rows new (omega (arith, is, within))) (ap (λ (n : ℕ). Goes (n, new)) same)
+
+-- what an import in clear comes to, but for its slot
+pub decide_import-built : (cipher : Ciphers) (rows : KeyRows) (name : List ℕ) (source : ImportSource) (uses : ℕ) (verify : Verify) → IsTrue (is_built_source source)
+    → unfinished (find_key name rows) ≡ None → duplicate (record { name = name; value = given_bytes [] source; uses = uses }) rows ≡ None
+    → decide_import cipher rows [] (record { name = name; source = source; uses = uses; verify = verify })
+    ≡ placed rows (record { name = name; value = given_bytes [] source; uses = uses }) (find_key name rows)
+decide_import-built cipher rows name (origin.Clear value) uses verify built complete single =
+    let long : is_key_length (length value) ≡ true = and_left (is_key_length (length value)) (all_bytes value) built in
+    rw (complete, long, single) refl
+decide_import-built cipher rows name (origin.Sealed sealing value) uses verify built complete single = absurd cc
+decide_import-built cipher rows name origin.Part uses verify built complete single = absurd cc
+
+-- what a name may be used for, where it is absent and where it stands
+pub permit-absent : (rows : List KeyRow) (name : List ℕ) (wanted : Use) (place : ℕ) → place ≡ place_named name rows → length rows ≤ place → permit (rows_from 0 rows) name wanted ≡ Stops refusals.KeyNotFound (Some name)
+permit-absent rows name wanted place is beyond = rw (find_key-absent name 0 rows (omega (arith, is, beyond))) refl
+
+pub permit-there : (rows : List KeyRow) (name : List ℕ) (wanted : Use) (place : ℕ) (row : KeyRow) → place ≡ place_named name rows → place < length rows → row ≡ slice_index_or rows place row
+    → permit (rows_from 0 rows) name wanted ≡ permit_row name wanted (Some (place + 0, row))
+permit-there rows name wanted place row is within at =
+    rw (find_key-there name 0 rows row (omega (arith, is, within)), sym is, sym at) refl
+
+-- rows stay plain where a plain one is put over another
+and_both : (a b : Bool) → IsTrue a → IsTrue b → IsTrue (a && b)
+and_both true b first second = second
+and_both false b first second = cc
+
+pub plain-over : (place : ℕ) (rows : List KeyRow) (new : KeyRow) → IsTrue (list_all is_plain rows) → IsTrue (is_plain new) → IsTrue (list_all is_plain (set rows place new))
+plain-over place [] new plain is = plain
+plain-over zero (row ∷ rows) new plain is = and_both (is_plain new) (list_all is_plain rows) is (and_right (is_plain row) (list_all is_plain rows) plain)
+plain-over (suc place) (row ∷ rows) new plain is =
+    and_both (is_plain row) (list_all is_plain (set rows place new)) (and_left (is_plain row) (list_all is_plain rows) plain) (plain-over place rows new (and_right (is_plain row) (list_all is_plain rows) plain) is)
+
+-- parts of what a line says of an import
 import-parts : (a b c d : Bool) → IsTrue (a && b && c && d) → (b ≡ true) × (c ≡ true)
 import-parts true true true d holds = (refl, refl)
 import-parts true true false d holds = cc
 import-parts true false c d holds = cc
 import-parts false b c d holds = cc
 
--- the same of a request that a line spells
-decide_import-is : (cipher : Ciphers) (keys : List NamedKey) (request : ImportRequest) → IsTrue (is_built_import request)
-    → decide_import cipher (rows_from 0 keys) [] request ≡ placed (rows_from 0 keys) (record { name = request.name; value = given_bytes [] request.source; uses = 2 }) (find_key request.name (rows_from 0 keys))
-decide_import-is cipher keys request built =
-    let parts = import-parts (is_key_name request.name) (is_built_source request.source) (request.uses == 2) (is_unchecked request.verify) built in
-    decide_import-built cipher keys request.name request.source request.uses request.verify parts.0 (eqb-true request.uses 2 parts.1)
+last-not : (a b c d : Bool) → IsTrue (a && b && c && not d) → d ≡ false
+last-not true true true false holds = refl
+last-not true true true true holds = cc
+last-not true true false d holds = cc
+last-not true false c d holds = cc
+last-not false b c d holds = cc
 
--- an absent name where no slot is empty, one that gets the next slot, and a name that keeps its slot
-pub decide_import-full : (cipher : Ciphers) (keys : List NamedKey) (request : ImportRequest) (place : ℕ) → IsTrue (is_built_import request) → place ≡ place_named request.name keys → place ≡ length keys → 64 ≤ place
-    → decide_import cipher (rows_from 0 keys) [] request ≡ Stops refusals.TableFull None
-decide_import-full cipher keys request place built is last full =
-    decide_import-is cipher keys request built ∙ rw (find_key-absent request.name 0 keys (omega (arith, is, last)), empty_slot-none 0 64 keys (omega (arith, last, full))) refl
-
-pub decide_import-new : (cipher : Ciphers) (keys : List NamedKey) (request : ImportRequest) (place : ℕ) → IsTrue (is_built_import request) → place ≡ place_named request.name keys → place ≡ length keys → place < 64
-    → decide_import cipher (rows_from 0 keys) [] request ≡ Goes (place, record { name = request.name; value = given_bytes [] request.source; uses = 2 })
-decide_import-new cipher keys request place built is last room =
-    decide_import-is cipher keys request built ∙ rw (find_key-absent request.name 0 keys (omega (arith, is, last)), empty_slot-next 0 64 keys (omega arith) (omega (arith, last, room)), last) refl
-
-pub decide_import-present : (cipher : Ciphers) (keys : List NamedKey) (request : ImportRequest) (place : ℕ) (other : NamedKey) → IsTrue (is_built_import request) → place ≡ place_named request.name keys → place < length keys
-    → decide_import cipher (rows_from 0 keys) [] request ≡ Goes (place, record { name = request.name; value = given_bytes [] request.source; uses = 2 })
-decide_import-present cipher keys request place other built is within =
-    let same : place_named request.name keys + 0 ≡ place = omega (arith, is) in
-    decide_import-is cipher keys request built ∙ rw (find_key-there request.name 0 keys other (omega (arith, is, within))) (ap (λ (n : ℕ). Goes (n, record { name = request.name; value = given_bytes [] request.source; uses = 2 })) same)
+pub decide_import-is : (cipher : Ciphers) (rows : KeyRows) (request : ImportRequest) (found : Option ℕ) → IsTrue (is_built_import request) → unfinished (find_key request.name rows) ≡ None
+    → ((new : KeyRow) → forbids_duplicates new.uses ≡ false → duplicate new rows ≡ None)
+    → ((new : KeyRow) → placed rows new (find_key request.name rows) ≡ slot_decided new found)
+    → decide_import cipher rows [] request ≡ slot_decided (record { name = request.name; value = given_bytes [] request.source; uses = request.uses }) found
+decide_import-is cipher rows request found built complete single slot =
+    let parts = import-parts (is_key_name request.name) (is_built_source request.source) (is_built_uses request.uses) (is_unchecked request.verify) built in
+    let allows : forbids_duplicates request.uses ≡ false = last-not (uses_valid request.uses) (nat_lt request.uses 64) (not (allows_use request.uses purpose.KeyEncKey)) (forbids_duplicates request.uses) parts.1 in
+    let new : KeyRow = record { name = request.name; value = given_bytes [] request.source; uses = request.uses } in
+    decide_import-built cipher rows request.name request.source request.uses request.verify parts.0 complete (single new allows) ∙ slot new

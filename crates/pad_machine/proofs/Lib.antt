@@ -1,4 +1,5 @@
 pub mod BookLemmas
+pub mod ImportLemmas
 pub mod KeyLemmas
 pub mod PressLemmas
 pub mod QueueLemmas

@@ -11,7 +11,7 @@ use Rattle.flat_machine.specs.declared.types.Row.{Row}
 use Rattle.flat_machine.specs.declared.types.Row.TheVariants.{Gone, InWork, Waiting}
 use Rattle.pad_machine.proofs.RowLemmas.{length-begun_as, length-finished}
 use Rattle.pad_machine.specs.Queue.{IsScanStart, is_gone, is_pending_row}
-use Rattle.pad_steps.specs.Formed.{is_well_formed_command}
+use Rattle.pad_machine.specs.Queue.{is_taken}
 use Rattle.pad_steps.specs.declared.answers.Reply.{Reply}
 use Rattle.pad_steps.specs.declared.commands.Command.{Command}
 use Rattle.pad_words.specs.declared.numbers.Session.{Session}
@@ -138,29 +138,29 @@ le-more : (place few many : ℕ) → place ≤ few → many ≡ few + 1 → plac
 le-more place few many within more = omega arith
 
 -- the place stays one from which to scan
-pub scan-submitted : (place : ℕ) (rows : List (Row Command Reply)) (new : Asked Command) → IsScanStart place rows → IsTrue (is_well_formed_command new.command) → IsScanStart place (rows ++ Waiting new ∷ [])
+pub scan-submitted : (place : ℕ) (rows : List (Row Command Reply)) (new : Asked Command) → IsScanStart place rows → IsTrue (is_taken new.command) → IsScanStart place (rows ++ Waiting new ∷ [])
 scan-submitted place rows new start formed = record {
   within = le-more place (length rows) (length (rows ++ Waiting new ∷ [])) start.within (length-append rows (Waiting new ∷ []));
   gone = gone-append place rows (Waiting new ∷ []) start.within start.gone;
-  built = pending_pass-append is_well_formed_command rows new start.built formed;
+  taken = pending_pass-append is_taken rows new start.taken formed;
 }
 
 pub scan-begun : (place : ℕ) (rows : List (Row Command Reply)) → IsScanStart place rows → IsScanStart place (begun None rows)
 scan-begun place rows start = record {
   within = rw (length-begun_as (λ (asked : Asked Command). InWork asked) None rows) start.within;
   gone = gone-begun place rows start.gone;
-  built = pending_pass-begun is_well_formed_command rows start.built;
+  taken = pending_pass-begun is_taken rows start.taken;
 }
 
 pub scan-finished : (reply : Reply) (place : ℕ) (rows : List (Row Command Reply)) → IsScanStart place rows → IsScanStart place (finished reply rows)
 scan-finished reply place rows start = record {
   within = rw (length-finished reply rows) start.within;
   gone = gone-finished reply place rows start.gone;
-  built = pending_pass-finished is_well_formed_command reply rows start.built;
+  taken = pending_pass-finished is_taken reply rows start.taken;
 }
 
 -- also where memory may be wanting
-pub scan-pushed : (pushed : Bool) (place : ℕ) (rows : List (Row Command Reply)) (new : Asked Command) → IsScanStart place rows → IsTrue (is_well_formed_command new.command) → IsScanStart place (if pushed then rows ++ Waiting new ∷ [] else rows)
+pub scan-pushed : (pushed : Bool) (place : ℕ) (rows : List (Row Command Reply)) (new : Asked Command) → IsScanStart place rows → IsTrue (is_taken new.command) → IsScanStart place (if pushed then rows ++ Waiting new ∷ [] else rows)
 scan-pushed true place rows new start formed = scan-submitted place rows new start formed
 scan-pushed false place rows new start formed = start
 
@@ -174,8 +174,8 @@ working-scan start rows shown same from = rw (same, take_rest rows start) (worki
 pub eligible-scan : (start : ℕ) (rows shown : List (Row Command Reply)) → shown ≡ rows → IsScanStart start rows → eligible None (take (length shown - start) (drop start shown)) ≡ eligible None rows
 eligible-scan start rows shown same from = rw (same, take_rest rows start) (eligible-drop start rows from.gone)
 
-pub pending_pass-scan : (start : ℕ) (rows shown : List (Row Command Reply)) → shown ≡ rows → IsScanStart start rows → IsTrue (pending_pass is_well_formed_command (take (length shown - start) (drop start shown)))
-pending_pass-scan start rows shown same from = rw (same, take_rest rows start) (pending_pass-drop is_well_formed_command start rows from.built)
+pub pending_pass-scan : (start : ℕ) (rows shown : List (Row Command Reply)) → shown ≡ rows → IsScanStart start rows → IsTrue (pending_pass is_taken (take (length shown - start) (drop start shown)))
+pending_pass-scan start rows shown same from = rw (same, take_rest rows start) (pending_pass-drop is_taken start rows from.taken)
 
 -- a request that waits at a place before which none does comes into work
 begun-waiting : (asked : Asked Command) (rows rest : List (Row Command Reply)) → rows ≡ Waiting asked ∷ rest → begun None rows ≡ InWork asked ∷ rest
@@ -204,7 +204,7 @@ pub scan-moved : (place later : ℕ) (rows shown : List (Row Command Reply)) →
 scan-moved place later rows shown same start within gone = record {
   within = rw (sym same) within;
   gone = rw (sym same) gone;
-  built = start.built;
+  taken = start.taken;
 }
 
 pub if_none-then : {A : Type 0} (found : Option A) {P Q : Type 0} → (P → Q) → IfNone found P → IfNone found Q

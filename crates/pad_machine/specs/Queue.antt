@@ -4,11 +4,13 @@ use Rattle.pad_words.specs.declared.numbers.Session.{Session}
 use Rattle.flat_machine.specs.Sound.{pending_pass}
 use Rattle.flat_machine.specs.declared.types.Row.{Row}
 use Rattle.flat_machine.specs.declared.types.Row.TheVariants.{Gone, InWork, Waiting}
-use Rattle.pad_steps.specs.Formed.{is_well_formed_command}
+use Rattle.flat_machine.specs.RequestSteps.{is_cfb}
+use Rattle.pad_steps.specs.Formed.{is_built_crypt, is_built_entry, is_built_import, is_built_pin}
+use Rattle.pad_steps.specs.declared.commands.Command.TheVariants as command
 use Rattle.pad_steps.specs.declared.answers.Reply.{Reply}
 use Rattle.pad_steps.specs.declared.commands.Command.{Command}
 use Rattle.std.specs.List.{list_all}
-use Rattle.std.specs.Prelude.{Bool, IsTrue, List, false, length, take, true, ℕ, ◌≤◌}
+use Rattle.std.specs.Prelude.{Bool, IsTrue, List, false, length, not, take, true, ℕ, ◌&&◌, ◌≤◌}
 
 -- the request has its reply
 abbrev pub is_gone : {C R : Type 0} → Row C R → Bool
@@ -34,8 +36,22 @@ finished_row reply (Waiting asked) = Waiting asked
 finished_row reply (InWork asked) = Gone asked.id asked.session reply
 finished_row reply (Gone id session old) = Gone id session old
 
--- a place before which all requests are gone, and pending requests have commands that a line spells
+-- a command that a line spells and that is not refused as it is submitted
+abbrev pub is_taken : Command → Bool
+is_taken (command.GetPin rules) = is_built_entry rules
+is_taken (command.GetData rules) = false
+is_taken (command.SecureKeyEntry rules) = false
+is_taken (command.MaintainPin on) = false
+is_taken (command.Pin request) = is_built_pin request
+is_taken (command.Crypt request) = is_built_crypt request && not (is_cfb request.algorithm)
+is_taken (command.ImportKey request) = is_built_import request
+is_taken (command.DeleteKey name) = false
+is_taken command.Init = false
+is_taken command.Reset = false
+is_taken command.RsaImport = false
+
+-- a place before which all requests are gone, and pending requests have commands that are taken
 pub record IsScanStart (place : ℕ) (rows : List (Row Command Reply)) : Type 0 where
   pub within : place ≤ length rows
   pub gone : IsTrue (list_all is_gone (take place rows))
-  pub built : IsTrue (pending_pass is_well_formed_command rows)
+  pub taken : IsTrue (pending_pass is_taken rows)

@@ -6,9 +6,8 @@ use Rattle.flat_machine.specs.declared.types.Device.TheVariants.{Ready}
 use Rattle.flat_machine.specs.declared.types.Row.{Row}
 use Rattle.flat_machine.specs.declared.types.Row.TheVariants.{Gone, InWork, Waiting}
 use Rattle.flat_machine.specs.declared.types.SessionRow.{SessionRow}
-use Rattle.pad_machine.specs.Keys.{rows_from}
+use Rattle.flat_machine.specs.KeyRows.{KeyRows}
 use Rattle.pad_machine.specs.declared.entry.RunningEntry.{RunningEntry}
-use Rattle.pad_machine.specs.declared.keys.NamedKey.{NamedKey}
 use Rattle.pad_steps.specs.declared.answers.Reply.{Reply}
 use Rattle.pad_steps.specs.declared.commands.Command.{Command}
 use Rattle.pad_steps.specs.declared.commands.EntryKind.TheVariants.{Pin}
@@ -21,8 +20,8 @@ abbrev pub StandsFor : Kept → Flat → Type 0
 StandsFor kept state = kept ≡ kept_of state
 
 -- the public part of a pad that is on, with these keys, no lock and no clock
-abbrev pub kept_public : List NamedKey → List SessionRow → List (Row Command Reply) → Public
-kept_public keys sessions requests = record { device = Ready; keys = rows_from 0 keys; doubt = None; loaded = false; sessions = sessions; line = []; requests = requests; clock = 0; part = []; maintain = false; drawn = 0 }
+abbrev pub kept_public : KeyRows → List SessionRow → List (Row Command Reply) → Public
+kept_public keys sessions requests = record { device = Ready; keys = keys; doubt = None; loaded = false; sessions = sessions; line = []; requests = requests; clock = 0; part = []; maintain = false; drawn = 0 }
 
 -- the running entry that the code names by its rules
 abbrev pub running_of : RunningEntry → Running

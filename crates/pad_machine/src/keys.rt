@@ -1,63 +1,108 @@
-// The keys that the pad keeps, in the order of their slots.
-ghost use Rattle.std.specs.Prelude.{◌≡◌, ◌<◌, ◌≤◌, ◌++◌, ◌∷◌, [], ℕ, OnOk, OnErr, length, vec_len, vec_capacity};
-ghost use Rattle.flat_machine.specs.KeyRows.{permit, with_row};
-ghost use Rattle.key_attributes.specs.declared.Use.TheVariants.{Function};
-ghost use Rattle.pad_machine.specs.Decided.{value_decided};
-ghost use Rattle.pad_machine.specs.Keys.{key_row, place_named, rows_from};
+// The keys that the pad keeps.
+ghost use Rattle.std.specs.Prelude.{◌≡◌, ◌<◌, ◌≤◌, ◌++◌, ◌∷◌, [], IfSome, IsTrue, None, OnOk, OnErr, false, length};
+ghost use Rattle.flat_machine.specs.Imports.{duplicate, placed, unfinished};
+ghost use Rattle.flat_machine.specs.KeyRows.{find_key, permit, with_row};
+ghost use Rattle.key_attributes.specs.UseBits.{forbids_duplicates};
+ghost use Rattle.key_attributes.specs.declared.KeyRow.{KeyRow};
+ghost use Rattle.pad_machine.specs.Decided.{slot_decided, value_decided};
+ghost use Rattle.pad_machine.specs.Keys.{is_plain, place_named};
 
-use pad_words::{Block, KeyName, NoMemory};
+use crate::refused::Refused;
+use key_attributes::{KeyRow, KeyValue, Use};
+use pad_steps::Refusal;
+use pad_words::{KeyName, NoMemory};
+use std::alloc::Global;
+use std::marker::Model;
 
-/// A key of eight bytes, by its name. It encrypts PIN blocks (FUNCTION) and does nothing else.
+/// The greatest number of keys.
+const MOST_KEYS: usize = 64;
+
+/// Keys by their names, in slots counted up from 0. Each is complete, and allows others of its value.
 #[derive(Drop)]
-pub struct NamedKey {
-    pub name: KeyName,
-    pub value: Block,
+pub struct Keys {
+    rows: Vec<KeyRow>,
 }
 
-/// The place of the key of this name. Where the name is absent, the number of keys.
-pub fn place_of(keys: &[NamedKey], name: &KeyName) -> usize
-    ensures place { result ≡ place_named name.now keys.now }
-    ensures within { result ≤ length keys.now }
+impl Model for Keys {
+    ghost use Rattle.std.specs.Prelude.{IsTrue};
+    ghost use Rattle.std.specs.List.{list_all};
+    ghost use Rattle.flat_machine.specs.KeyRows.{KeyRows};
+    ghost use Rattle.pad_machine.specs.Keys.{is_plain, rows_from};
+
+    ghost Value = { KeyRows };
+
+    ghost view = { λ k. rows_from 0 k.rows.items };
+
+    ghost invariant = { λ k. IsTrue (list_all is_plain k.rows.items) };
+}
+
+impl Keys {
+    pub fn empty(alloc: Global) -> Keys
+        ensures { result ≡ [] }
+    {
+        Keys {
+            rows: Vec::new(alloc),
+        }
+    }
+
+    /// The value of the key of this name for this use, or the first refusal, which accuses the key.
+    pub fn permit(&self, name: &KeyName, wanted: Use) -> Result<&KeyValue, Refused>
+        ensures { permit self.now name.now wanted ≡ value_decided result }
+    {
+        let place = place_of(self.rows.as_slice(), name);
+        if place == self.rows.len() {
+            return Err(Refused::of_key(Refusal::KeyNotFound, name));
+        }
+        let row = &self.rows[place];
+        if row.uses.under_construction() {
+            return Err(Refused::of_key(Refusal::KeyNoValue, name));
+        }
+        if !row.uses.allows(wanted) {
+            return Err(Refused::of_key(Refusal::UseViolation, name));
+        }
+        Ok(&row.value)
+    }
+
+    /// The slot of a new row of this name: its own, or the next. None where the name is absent and all slots are taken.
+    pub fn slot_for(&self, name: &KeyName) -> Option<usize>
+        ensures slot { (new : KeyRow) → placed self.now new (find_key name.now self.now) ≡ slot_decided new result }
+        ensures within { IfSome result (λ slot. slot ≤ length self.now) }
+        ensures complete { unfinished (find_key name.now self.now) ≡ None }
+        ensures single { (new : KeyRow) → forbids_duplicates new.uses ≡ false → duplicate new self.now ≡ None }
+    {
+        let place = place_of(self.rows.as_slice(), name);
+        if place == self.rows.len() && place >= MOST_KEYS {
+            return None;
+        }
+        Some(place)
+    }
+
+    /// Puts the row into this slot: over the one that stands there, or as the next. After want of memory all is as before.
+    pub fn put(&mut self, slot: usize, row: KeyRow) -> Result<(), NoMemory>
+        requires within { slot ≤ length self.old }
+        requires plain { IsTrue (is_plain row) }
+        ensures ok { OnOk result (self.new ≡ with_row slot row self.old) }
+        ensures err { OnErr result (self.new ≡ self.old) }
+    {
+        if slot < self.rows.len() {
+            self.rows[slot] = row;
+            return Ok(());
+        }
+        match self.rows.push(row) {
+            Ok(()) => Ok(()),
+            Err(_) => Err(NoMemory),
+        }
+    }
+}
+
+// The place of the row of this name. Where the name is absent, the number of rows.
+fn place_of(rows: &[KeyRow], name: &KeyName) -> usize
+    ensures place { result ≡ place_named name.now rows.now }
+    ensures within { result ≤ length rows.now }
 {
     let mut place = 0;
-    while place < keys.len() && keys[place].name.text() != name.text() {
+    while place < rows.len() && rows[place].name.text() != name.text() {
         place += 1;
     }
     place
-}
-
-/// The value of the key of this name, which may encrypt PIN blocks. None where the name is absent.
-pub fn value_of(keys: &[NamedKey], name: &KeyName) -> Option<Block>
-    ensures { permit (rows_from 0 keys.now) name.now Function ≡ value_decided name.now result }
-{
-    let place = place_of(keys, name);
-    if place < keys.len() {
-        Some(keys[place].value)
-    } else {
-        None
-    }
-}
-
-/// Makes room for one more key. After want of memory the keys are as before.
-pub fn make_room(keys: &mut Vec<NamedKey>) -> Result<(), NoMemory>
-    ensures keys { keys.new.items ≡ keys.old.items }
-    ensures room { OnOk result (vec_len keys.new < vec_capacity keys.new) }
-{
-    match keys.reserve(1) {
-        Ok(()) => Ok(()),
-        Err(_) => Err(NoMemory),
-    }
-}
-
-/// Puts the key at this place: over the one that stands there, or last.
-pub fn put(keys: &mut Vec<NamedKey>, place: usize, key: NamedKey)
-    requires within { place ≤ length (rows_from 0 keys.old.items) }
-    requires room { vec_len keys.old < vec_capacity keys.old }
-    ensures { rows_from 0 keys.new.items ≡ with_row place (key_row key) (rows_from 0 keys.old.items) }
-{
-    if place < keys.len() {
-        keys[place] = key;
-    } else {
-        keys.push_reserved(key);
-    }
 }

@@ -8,5 +8,6 @@ mod entry;
 mod keys;
 mod pad;
 mod queue;
+mod refused;
 
 pub use pad::{Pad, Stepped};

@@ -18,9 +18,10 @@ ghost use Rattle.pad_machine.specs.Stands.{StandsFor, draws, is_press, running_o
 mod finishing;
 
 use crate::book::{enter, is_open, listen, say, send};
+use crate::deciding::command_refusal;
 use crate::digits::PinDigits;
 use crate::entry::{RunningEntry, is_secret_key, seen, take_key};
-use crate::keys::NamedKey;
+use crate::keys::Keys;
 use crate::queue::{Queue, entry_of};
 use flat_machine::laws::kept::kept_steps;
 use flat_machine::laws::twins::unwinding;
@@ -45,7 +46,7 @@ pub struct Stepped {
 #[derive(Drop)]
 pub struct Pad {
     alloc: Global,
-    keys: Vec<NamedKey>,
+    keys: Keys,
     sessions: Vec<SessionRow>,
     requests: Queue,
     digits: PinDigits,
@@ -58,7 +59,7 @@ impl Model for Pad {
 
     ghost Value = { Kept };
 
-    ghost view = { λ p. record { public = kept_public p.keys.items p.sessions.items p.requests; digits = p.digits; held = p.held } };
+    ghost view = { λ p. record { public = kept_public p.keys p.sessions.items p.requests; digits = p.digits; held = p.held } };
 }
 
 impl Pad {
@@ -71,7 +72,7 @@ impl Pad {
         };
         Ok(Pad {
             alloc,
-            keys: Vec::new(alloc),
+            keys: Keys::empty(alloc),
             sessions,
             requests: Queue::empty(alloc),
             digits: PinDigits::empty(),
@@ -229,6 +230,10 @@ impl Pad {
         }
         if self.requests.pending(session) >= 16 {
             say(out, Out::Refused(session, Refusal::QueueFull(16)));
+            return Ok(());
+        }
+        if let Some(refusal) = command_refusal(command) {
+            say(out, Out::Refused(session, refusal));
             return Ok(());
         }
         let id = self.requests.len() as u32 + 1;

@@ -8,9 +8,9 @@ ghost use Rattle.flat_machine.specs.State.{running_by, running_in};
 ghost use Rattle.flat_machine.specs.declared.types.Asked.{Asked};
 ghost use Rattle.flat_machine.specs.Requests.{working, eligible, begun, finished, pending_count};
 ghost use Rattle.flat_machine.specs.declared.types.Row.TheVariants.{Waiting};
-ghost use Rattle.pad_machine.specs.Queue.{is_gone, is_pending_row, begun_row, finished_row, IsScanStart};
+ghost use Rattle.pad_machine.specs.Queue.{is_gone, is_pending_row, begun_row, finished_row, is_taken, IsScanStart};
 ghost use Rattle.pad_machine.specs.Stands.{running_of};
-ghost use Rattle.pad_steps.specs.Formed.{is_built_entry, is_well_formed_command};
+ghost use Rattle.pad_steps.specs.Formed.{is_built_entry};
 ghost use Rattle.pad_steps.specs.declared.commands.Command.{Command};
 
 use crate::entry::RunningEntry;
@@ -69,7 +69,7 @@ impl Queue {
     /// The request in work.
     pub fn in_work(&self) -> Option<&Asked<Command>>
         ensures asked { option_copied result ≡ working self.now }
-        ensures built { IfSome result (λ asked. IsTrue (is_well_formed_command asked.now.command)) }
+        ensures taken { IfSome result (λ asked. IsTrue (is_taken asked.now.command)) }
     {
         first_in_work(&self.rows[self.start..])
     }
@@ -88,14 +88,14 @@ impl Queue {
     /// The first request that waits.
     pub fn waiting(&self) -> Option<&Asked<Command>>
         ensures asked { option_copied result ≡ eligible None self.now }
-        ensures built { IfSome result (λ asked. IsTrue (is_well_formed_command asked.now.command)) }
+        ensures taken { IfSome result (λ asked. IsTrue (is_taken asked.now.command)) }
     {
         first_waiting(&self.rows[self.start..])
     }
 
     /// A request that waits, put last. After want of memory all is as before.
     pub fn submit(&mut self, asked: Asked<Command>) -> Result<(), NoMemory>
-        requires { IsTrue (is_well_formed_command asked.command) }
+        requires { IsTrue (is_taken asked.command) }
         ensures ok { OnOk result (self.new ≡ self.old ++ Waiting asked ∷ []) }
         ensures err { OnErr result (self.new ≡ self.old) }
     {
@@ -142,9 +142,9 @@ fn is_pending_of(row: &Row<Command, Reply>, session: Session) -> bool
 
 // The request in work among these.
 fn first_in_work(rows: &[Row<Command, Reply>]) -> Option<&Asked<Command>>
-    requires { IsTrue (pending_pass is_well_formed_command rows.now) }
+    requires { IsTrue (pending_pass is_taken rows.now) }
     ensures asked { option_copied result ≡ working rows.now }
-    ensures built { IfSome result (λ asked. IsTrue (is_well_formed_command asked.now.command)) }
+    ensures taken { IfSome result (λ asked. IsTrue (is_taken asked.now.command)) }
 {
     for row in rows {
         if let Row::InWork(asked) = row {
@@ -156,7 +156,7 @@ fn first_in_work(rows: &[Row<Command, Reply>]) -> Option<&Asked<Command>>
 
 /// The entry that the request asks for, if it asks for one.
 pub fn entry_of(asked: &Asked<Command>) -> Option<RunningEntry>
-    requires { IsTrue (is_well_formed_command asked.now.command) }
+    requires { IsTrue (is_taken asked.now.command) }
     ensures entry { option_map running_of result ≡ running_by asked.now (command_entry asked.now.command) }
     ensures built { IfSome result (λ entry. IsTrue (is_built_entry entry.rules)) }
 {
@@ -166,7 +166,7 @@ pub fn entry_of(asked: &Asked<Command>) -> Option<RunningEntry>
             session: asked.session,
             rules: *rules,
         }),
-        Command::Pin(_) | Command::ImportKey(_) => None,
+        Command::Pin(_) | Command::Crypt(_) | Command::ImportKey(_) => None,
         // No line asks for another command.
         _ => unreachable!(),
     }
@@ -174,9 +174,9 @@ pub fn entry_of(asked: &Asked<Command>) -> Option<RunningEntry>
 
 // The first of these requests that waits.
 fn first_waiting(rows: &[Row<Command, Reply>]) -> Option<&Asked<Command>>
-    requires { IsTrue (pending_pass is_well_formed_command rows.now) }
+    requires { IsTrue (pending_pass is_taken rows.now) }
     ensures asked { option_copied result ≡ eligible None rows.now }
-    ensures built { IfSome result (λ asked. IsTrue (is_well_formed_command asked.now.command)) }
+    ensures taken { IfSome result (λ asked. IsTrue (is_taken asked.now.command)) }
 {
     for row in rows {
         if let Row::Waiting(asked) = row {

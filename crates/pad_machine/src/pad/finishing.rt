@@ -1,13 +1,15 @@
 // Finish: a command that is no entry is done, and its reply is sent.
 ghost use Rattle.std.specs.Prelude.{◌≡◌, ◌≤◌, ◌<◌, ◌+◌, ◌++◌, ◌∷◌, [], ℕ, IfOk, IsTrue, None, OnOk, OnErr, length};
-ghost use Rattle.flat_machine.specs.FinishSteps.{finish_pin, next_finish, pin_now};
+ghost use Rattle.flat_machine.specs.FinishSteps.{finish_by, finish_pin, next_finish, pin_now};
 ghost use Rattle.flat_machine.specs.Kept.{Kept, kept_said};
 ghost use Rattle.flat_machine.specs.Standard.{standard_setting};
 ghost use Rattle.flat_machine.specs.State.{refuses, replies};
 ghost use Rattle.flat_machine.specs.declared.types.Asked.{Asked};
-ghost use Rattle.pad_machine.specs.Decided.{block_said, import_said, request_of};
-ghost use Rattle.pad_steps.specs.Formed.{is_built_block};
-ghost use Rattle.pad_steps.specs.declared.answers.Answer.TheVariants.{Block as BlockAnswer, Key as KeyAnswer};
+ghost use Rattle.pad_machine.specs.Keys.{is_plain};
+ghost use Rattle.pad_machine.specs.Decided.{block_said, crypt_said, import_said, request_of};
+ghost use Rattle.pad_steps.specs.Formed.{is_built_block, is_built_import};
+ghost use Rattle.pad_steps.specs.declared.commands.Command.TheVariants.{ImportKey as ImportOf};
+ghost use Rattle.pad_steps.specs.declared.answers.Answer.TheVariants.{Block as BlockAnswer, Crypt as CryptAnswer, Key as KeyAnswer, Mac as MacAnswer};
 ghost use Rattle.pad_steps.specs.declared.answers.Reply.TheVariants.{Ok as ReplyOk};
 ghost use Rattle.pad_steps.specs.declared.commands.Command.{Command};
 ghost use Rattle.pad_steps.specs.declared.commands.PinRequest.TheVariants.{Block as BlockOf};
@@ -15,10 +17,14 @@ ghost use Rattle.pad_steps.specs.declared.steps.DiskWord.TheVariants.{Quiet};
 
 use super::Pad;
 use crate::book::{announce, say};
-use crate::deciding::{Refused, block_key, encrypted_block, imported_key};
-use crate::keys::{NamedKey, make_room, put};
-use pad_steps::{Answer, BlockRequest, Command, Event, Out, Outs, PinRequest, Reply};
-use pad_words::{Block, NoMemory, Session};
+use crate::deciding::{block_key, crypted, encrypted_block, imported_row};
+use crate::refused::Refused;
+use crypt_commands::CryptOut;
+use key_attributes::KeyRow;
+use pad_steps::{
+    Answer, BlockRequest, Command, Event, ImportRequest, Out, Outs, PinRequest, Reply,
+};
+use pad_words::{Block, NoMemory, Octets, Session};
 
 /// A request by its id, and whose it is.
 #[derive(Clone, Copy, Debug)]
@@ -49,8 +55,12 @@ impl Pad {
                 self.finish_block(owner, decided, out);
                 Ok(())
             }
+            Command::Crypt(request) => {
+                let decided = crypted(pad.alloc, &pad.keys, request)?;
+                self.finish_crypt(owner, decided, out)
+            }
             Command::ImportKey(request) => {
-                let decided = imported_key(pad.keys.as_slice(), request);
+                let decided = pad.decide_import(request);
                 self.finish_import(owner, decided, out)
             }
             // An entry ends by a key.
@@ -63,8 +73,18 @@ impl Pad {
         requires { IsTrue (is_built_block request.now) }
         ensures { (fill : ℕ → ℕ) (asked : Asked Command) → finish_pin (standard_setting fill) self.now.public self.now.held asked (BlockOf request.now) (pin_now (standard_setting fill).works self.now.public (length self.now.held) (BlockOf request.now)) ≡ block_said self.now.public asked result }
     {
-        let key = block_key(self.keys.as_slice(), self.held.len(), request)?;
+        let key = block_key(&self.keys, self.held.len(), request)?;
         Ok(encrypted_block(key, self.held.digits(), request))
+    }
+
+    // The slot of an imported key and its row, or the first refusal that applies.
+    fn decide_import(&self, request: &ImportRequest) -> Result<(usize, KeyRow), Refused>
+        requires { IsTrue (is_built_import request.now) }
+        ensures said { (fill : ℕ → ℕ) (asked : Asked Command) → finish_by (standard_setting fill) self.now.public self.now.held asked (ImportOf request.now) Quiet ≡ import_said self.now.public asked result }
+        ensures within { IfOk result (λ new. new.0 ≤ length self.now.public.keys) }
+        ensures plain { IfOk result (λ new. IsTrue (is_plain new.1)) }
+    {
+        imported_row(&self.keys, request)
     }
 
     // Answers a block, and clears the held PIN; or refuses, and keeps it.
@@ -86,20 +106,45 @@ impl Pad {
     fn finish_import(
         &mut self,
         owner: Owner,
-        decided: Result<(usize, NamedKey), Refused>,
+        decided: Result<(usize, KeyRow), Refused>,
         out: &mut Outs,
     ) -> Result<(), NoMemory>
         requires room { length self.old.public.sessions + 1 ≤ out.old.spare }
         requires within { IfOk decided (λ new. new.0 ≤ length self.old.public.keys) }
+        requires plain { IfOk decided (λ new. IsTrue (is_plain new.1)) }
         ensures state { OnOk result (self.new ≡ (kept_said self.old (import_said self.old.public (request_of owner) decided)).state) }
         ensures outs { OnOk result (out.new.items ≡ out.old.items ++ (import_said self.old.public (request_of owner) decided).outs) }
         ensures err { OnErr result ((self.new ≡ self.old) × (out.new.items ≡ out.old.items)) }
     {
         match decided {
-            Ok((place, key)) => {
-                make_room(&mut self.keys)?;
-                put(&mut self.keys, place, key);
+            Ok((slot, row)) => {
+                self.keys.put(slot, row)?;
                 self.end(owner, imported(), imported(), out);
+            }
+            Err(refused) => self.refuse(owner, refused, out),
+        }
+        Ok(())
+    }
+
+    // Answers what CRYPT gives; or refuses.
+    fn finish_crypt(
+        &mut self,
+        owner: Owner,
+        decided: Result<CryptOut, Refused>,
+        out: &mut Outs,
+    ) -> Result<(), NoMemory>
+        requires room { length self.old.public.sessions + 1 ≤ out.old.spare }
+        ensures state { OnOk result (self.new ≡ (kept_said self.old (crypt_said self.old.public (request_of owner) decided)).state) }
+        ensures outs { OnOk result (out.new.items ≡ out.old.items ++ (crypt_said self.old.public (request_of owner) decided).outs) }
+        ensures err { OnErr result ((self.new ≡ self.old) × (out.new.items ≡ out.old.items)) }
+    {
+        match decided {
+            Ok(CryptOut::Bytes(bytes)) => {
+                let told = Octets::copy(self.alloc, bytes.items())?;
+                self.end(owner, crypted_reply(bytes), crypted_reply(told), out);
+            }
+            Ok(CryptOut::Mac(code)) => {
+                self.end(owner, authenticated(code), authenticated(code), out);
             }
             Err(refused) => self.refuse(owner, refused, out),
         }
@@ -140,6 +185,20 @@ fn answered(block: Block) -> Reply
     ensures { result ≡ ReplyOk (BlockAnswer block) }
 {
     Reply::Ok(Answer::Block(block))
+}
+
+// The reply of bytes that were encrypted or decrypted.
+fn crypted_reply(bytes: Octets) -> Reply
+    ensures { result ≡ ReplyOk (CryptAnswer bytes) }
+{
+    Reply::Ok(Answer::Crypt(bytes))
+}
+
+// The reply of an authentication code.
+fn authenticated(code: Block) -> Reply
+    ensures { result ≡ ReplyOk (MacAnswer code) }
+{
+    Reply::Ok(Answer::Mac(code))
 }
 
 // The reply of an import that asks for no check value.

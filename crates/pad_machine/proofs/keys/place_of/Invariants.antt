@@ -4,9 +4,9 @@ use Rattle.pad_machine.proofs.keys.place_of.Given as goal
 
 abbrev pub invariant-loop-place : goal.invariant-loop-place
 invariant-loop-place l = record {
-  place : place_named l.name l.keys ≡ l.place + place_named l.name (drop l.place l.keys);
-  within : l.place ≤ length l.keys;
+  place : place_named l.name l.rows ≡ l.place + place_named l.name (drop l.place l.rows);
+  within : l.place ≤ length l.rows;
 }
 
 abbrev pub decreases-loop-place : goal.decreases-loop-place
-decreases-loop-place l = length l.keys - l.place
+decreases-loop-place l = length l.rows - l.place

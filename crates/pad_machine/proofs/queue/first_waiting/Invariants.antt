@@ -2,11 +2,11 @@ use Rattle.std.proofs.Common.{◌≡◌, drop}
 use Rattle.std.specs.Prelude.{IsTrue, None}
 use Rattle.flat_machine.specs.Requests.{eligible}
 use Rattle.flat_machine.specs.Sound.{pending_pass}
-use Rattle.pad_steps.specs.Formed.{is_well_formed_command}
+use Rattle.pad_machine.specs.Queue.{is_taken}
 use Rattle.pad_machine.proofs.queue.first_waiting.Given as goal
 
 abbrev pub invariant-loop-row : goal.invariant-loop-row
 invariant-loop-row l = record {
   found : eligible None l.rows ≡ eligible None (drop l.row-index l.rows);
-  built : IsTrue (pending_pass is_well_formed_command (drop l.row-index l.rows));
+  built : IsTrue (pending_pass is_taken (drop l.row-index l.rows));
 }
