@@ -1,5 +1,5 @@
 //! Whole runs, and what no clause says: that memory suffices.
-mod blocks;
+mod commands;
 
 use crate::top::run_pinpad;
 use disk_core::{Calls, Counted, MemSink, MemSource, Source};

@@ -1,4 +1,4 @@
-//! Keys and PIN blocks in whole runs.
+//! Keys, PIN blocks and CRYPT in whole runs.
 //!
 //! The encrypted blocks come from OpenSSL and its legacy provider:
 //! `printf 041215FEDCBA9876 | xxd -r -p | openssl enc -des-ecb -K 0000000000000000 -nopad -provider legacy -provider default | xxd -p`.
@@ -15,11 +15,15 @@ enum Act<'t> {
     Cancel,
     /// A command is submitted and finished with this reply.
     Do(&'t str, &'t str),
+    /// A command is submitted, and refused so.
+    Refuse(&'t str, &'t str),
 }
 
 const ENTRY: &str = "getpin 4 16 hold 000F03FF00000000 0003000000000000";
 
 const IMPORT: Act<'static> = Act::Do("import PPK clear 0000000000000000 0002 none", "OK key -");
+
+const IMPORT_CK: Act<'static> = Act::Do("import CK clear 0123456789ABCDEF 0005 none", "OK key -");
 
 const BLOCK: &str = "pinblock iso0 PPK - - 543210123456789 F";
 
@@ -84,6 +88,7 @@ impl Play {
             Act::Enter(pin) => self.enter(pin),
             Act::Cancel => self.cancel(),
             Act::Do(command, reply) => self.finish(command, reply),
+            Act::Refuse(command, code) => self.refuse(command, code),
         }
     }
 
@@ -95,6 +100,13 @@ impl Play {
         self.said(said.as_str())?;
         self.line("auto")?;
         self.taken("begin")
+    }
+
+    fn refuse(&mut self, command: &str, code: &str) -> Result<(), Fail> {
+        let line = format!(in self.alloc; "submit 1 0 {command}")?;
+        let said = format!(in self.alloc; "refused {code}")?;
+        self.step(line.as_str(), line.as_str())?;
+        self.said(said.as_str())
     }
 
     fn ended(&mut self, reply: &str) -> Result<(), Fail> {
@@ -139,9 +151,9 @@ impl Play {
 }
 
 #[test]
-fn keys_and_blocks(rt: HostRuntime) -> Result<(), Fail> {
+fn keys_blocks_and_crypt(rt: HostRuntime) -> Result<(), Fail> {
     let alloc = rt.alloc();
-    let rows: [(&str, &[Act]); 9] = [
+    let rows: [(&str, &[Act]); 12] = [
         (
             "a block uses the PIN up",
             &[
@@ -226,6 +238,71 @@ fn keys_and_blocks(rt: HostRuntime) -> Result<(), Fail> {
                     "pinblock iso0 A_9 - - 543210123456789 A",
                     "OK block 3DDA55198A4398D8",
                 ),
+            ],
+        ),
+        (
+            "codes and CBC of the example of FIPS 81",
+            &[
+                Act::Do(
+                    "import MK clear 0123456789ABCDEFFEDCBA9876543210 0004 none",
+                    "OK key -",
+                ),
+                Act::Do(
+                    "crypt retail encrypt MK - 00 4E6F77206973207468652074696D6520666F7220616C6C20",
+                    "OK mac A1C72E74EA3FA9B6",
+                ),
+                IMPORT_CK,
+                Act::Do(
+                    "crypt cbc encrypt CK 1234567890ABCDEF 00 4E6F77206973207468652074696D6520666F7220616C6C20",
+                    "OK crypt E5C7CDDE872BF27C43E934008C389C0F683788499A7C05F6",
+                ),
+                Act::Do(
+                    "crypt cbc decrypt CK 1234567890ABCDEF 00 E5C7CDDE872BF27C43E934008C389C0F683788499A7C05F6",
+                    "OK crypt 4E6F77206973207468652074696D6520666F7220616C6C20",
+                ),
+                Act::Do(
+                    "crypt mac encrypt CK - 00 4E6F77206973207468652074696D6520666F7220616C6C20",
+                    "OK mac 70A30640CC76DD8B",
+                ),
+                Act::Do("crypt mac encrypt MK - 00 00", "INVALIDKEYLENGTH"),
+                Act::Do("crypt ecb decrypt CK - 00 01020304050607", "LENGTHERROR"),
+                Act::Do("crypt mac encrypt CK - 00 -", "LENGTHERROR"),
+                Act::Refuse("crypt cfb encrypt CK - 00 00", "MODENOTSUPPORTED"),
+                Act::Refuse("crypt mac decrypt CK - 00 00", "INVALIDDATA"),
+                Act::Refuse("crypt ecb encrypt CK 1234567890ABCDEF 00 00", "INVALIDDATA"),
+            ],
+        ),
+        (
+            "a start value that is sealed",
+            &[
+                Act::Do("import SVK clear 0000000000000000 0020 none", "OK key -"),
+                IMPORT_CK,
+                Act::Do(
+                    "crypt cbc encrypt CK SVK:8CA64DE9C1B123A7 00 4E6F772069732074",
+                    "OK crypt 3FA40E8A984D4815",
+                ),
+                Act::Do(
+                    "crypt cbc encrypt CK CK:8CA64DE9C1B123A7 00 4E6F772069732074",
+                    "USEVIOLATION",
+                ),
+                Act::Do(
+                    "crypt cbc encrypt CK GONE:8CA64DE9C1B123A7 00 4E6F772069732074",
+                    "KEYNOTFOUND",
+                ),
+            ],
+        ),
+        (
+            "keys are used as they may be, before lengths are looked at",
+            &[
+                IMPORT_CK,
+                Act::Enter("1234"),
+                Act::Do("pinblock iso0 CK - - 543210123456789 F", "USEVIOLATION"),
+                Act::Do(
+                    "import PPK clear 0123456789ABCDEFFEDCBA9876543210 0002 none",
+                    "OK key -",
+                ),
+                Act::Do("crypt mac encrypt PPK - 00 -", "USEVIOLATION"),
+                Act::Do(BLOCK, "OK block BA2ADC4EBA48F711"),
             ],
         ),
     ];
