@@ -97,8 +97,8 @@ fn has_wrong_length(direction: Direction, bytes: &[u8]) -> bool
     bytes.is_empty() || (direction == Direction::Decrypt && bytes.len() % 8 != 0)
 }
 
-// Triple DES under the key.
-fn cipher_of(key: &KeyValue) -> Tdea
+/// Triple DES under a key (FIPS 46-3).
+pub fn cipher_of(key: &KeyValue) -> Tdea
     ensures { result ≡ key.now }
 {
     match Tdea::new(key.bytes()) {

@@ -18,8 +18,7 @@ ghost use Rattle.pin_blocks.specs.Blocks.{block_nibbles};
 
 use crate::keys::Keys;
 use crate::refused::Refused;
-use crypt_commands::{CryptFault, CryptOut, run_crypt};
-use des_core::Tdea;
+use crypt_commands::{CryptFault, CryptOut, cipher_of, run_crypt};
 use key_attributes::{KeyRow, KeyValue, Use, Uses};
 use pad_steps::{
     Algorithm, BlockRequest, Command, CryptRequest, ImportRequest, ImportSource, Refusal, Start,
@@ -60,17 +59,6 @@ pub fn encrypted_block(key: &KeyValue, digits: &[Digit], request: &BlockRequest)
     match format(request.form, digits, &request.customer, request.pad, &[]) {
         Ok(block) => cipher_of(key).encrypt(block),
         // The request is one that a line spells, and the length suits the form.
-        Err(_) => unreachable!(),
-    }
-}
-
-// Triple DES under the key.
-fn cipher_of(key: &KeyValue) -> Tdea
-    ensures { result ≡ key.now }
-{
-    match Tdea::new(key.bytes()) {
-        Ok(cipher) => cipher,
-        // A key value has 8, 16 or 24 bytes.
         Err(_) => unreachable!(),
     }
 }
