@@ -2,8 +2,8 @@
 use Rattle.std.proofs.Common.{ap, arith, sym, ◌∙◌}
 use Rattle.std.proofs.lemmas.List.{length-drop, length-take-le}
 use Rattle.std.specs.Prelude.{List, drop, length, refl, suc, take, zero, ℕ, ◌*◌, ◌/◌, ◌∷◌, ◌≡◌, ◌≤◌}
-use Rattle.cbc_mac.specs.Modes.{blocks, cbc, chain, last_or, zero_block}
-use Rattle.des_core.specs.Bits.{exclusive_or}
+use Rattle.cbc_mac.specs.Modes.{blocks, cbc, chain, last_or}
+use Rattle.pad_words.specs.Bytes.{zero_block, exclusive_or}
 
 module _ (one two : List ℕ → List ℕ) (same : (block : List ℕ) → length block ≡ 8 → one block ≡ two block) (eight : (block : List ℕ) → length (two block) ≡ 8)
     (long : (xs ys : List ℕ) → length xs ≡ length ys → length (exclusive_or xs ys) ≡ length xs) where

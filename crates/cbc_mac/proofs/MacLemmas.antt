@@ -1,9 +1,9 @@
 -- A code in the making.
 use Rattle.std.proofs.Common.{◌≡◌, None, Option, Some, ℕ, zero, suc, ◌+◌, ◌-◌, ◌*◌, ◌/◌, ◌%◌, ◌<◌, ◌≤◌, List, [], ◌∷◌, ◌++◌, length, take, drop, replicate, set, refl, sym, subst, ap, ◌∙◌, arith}
 use Rattle.std.proofs.lemmas.List.{append-nil, length-append, length-drop, drop-drop, drop_all, drop-append-le, length-set, length-replicate, length-take-le, take_more_set, take-append-le, take_all, take_at, take-append-drop, drop_at}
-use Rattle.des_core.specs.Bits.{exclusive_or}
+use Rattle.pad_words.specs.Bytes.{exclusive_or, zero_block}
 use Rattle.des_core.specs.Des.{des_bytes, des_back_bytes}
-use Rattle.cbc_mac.specs.Modes.{blocks, blocks_of, cbc, chain, last_or, padded, zero_block}
+use Rattle.cbc_mac.specs.Modes.{blocks, blocks_of, cbc, chain, last_or, padded}
 use Rattle.cbc_mac.specs.Macs.{Fed, HasRead, IsKept, code_of, key_of, kind_of, mac}
 use Rattle.cbc_mac.specs.declared.mac.MacKind.{MacKind}
 use Rattle.cbc_mac.specs.declared.mac.MacKind.TheVariants.{Single, Retail}

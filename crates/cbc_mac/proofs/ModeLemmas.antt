@@ -1,28 +1,9 @@
 -- A list of bytes that is changed in place, a block at a time.
-use Rattle.std.proofs.Common.{◌≡◌, ℕ, suc, ◌+◌, ◌-◌, ◌*◌, ◌<◌, ◌≤◌, List, [], ◌∷◌, ◌++◌, length, take, drop, get_or, set, refl, sym, ap, ◌∙◌, arith}
+use Rattle.std.proofs.Common.{◌≡◌, ℕ, suc, ◌+◌, ◌-◌, ◌*◌, ◌<◌, ◌≤◌, List, [], ◌∷◌, ◌++◌, length, take, drop, refl, sym, ap, ◌∙◌, arith}
 use Rattle.std.specs.List.{concat}
-use Rattle.std.specs.Int.RustNames.{bit_xor}
-use Rattle.std.proofs.lemmas.List.{take_at, drop_at, append_assoc, append-nil, length-take-le, length-append, length-drop, drop-drop, take_all, drop_all, drop_more, take_more_set, drop-set-lt}
-use Rattle.des_core.specs.Bits.{exclusive_or}
+use Rattle.std.proofs.lemmas.List.{take_at, drop_at, append_assoc, append-nil, length-take-le, length-append, length-drop, drop-drop, take_all}
+use Rattle.pad_words.specs.Bytes.{exclusive_or}
 use Rattle.cbc_mac.specs.Modes.{blocks, cbc, cbc_back}
-
--- one byte more of an exclusive or, and all
-pub exclusive_or_step : (out other : List ℕ) (i v : ℕ) (all : List ℕ) → i < length out → i < length other
-    → v ≡ bit_xor (get_or out i 0) (get_or other i 0) → take i out ++ exclusive_or (drop i out) (drop i other) ≡ all
-    → take (i + 1) (set out i v) ++ exclusive_or (drop (i + 1) (set out i v)) (drop (i + 1) other) ≡ all
-unfolding exclusive_or
-exclusive_or_step out other i v all within other_within is before =
-    let front : take (i + 1) (set out i v) ≡ take i out ++ v ∷ [] = take_more_set out i v within in
-    let back : drop (i + 1) (set out i v) ≡ drop (i + 1) out = drop-set-lt (i + 1) out i v (omega arith) in
-    rw (front, back, is)
-    (append_assoc (take i out) (bit_xor (get_or out i 0) (get_or other i 0) ∷ []) _
-    ∙ rw (drop_more out i 0 within, drop_more other i 0 other_within) at before)
-
-pub exclusive_or_end : (out other : List ℕ) (i : ℕ) (all : List ℕ) → length out ≤ i
-    → take i out ++ exclusive_or (drop i out) (drop i other) ≡ all → out ≡ all
-unfolding exclusive_or
-exclusive_or_end out other i all past before =
-    sym (append-nil out) ∙ rw (drop_all i out past, take_all i out past) at before
 
 -- a list with eight bytes replaced
 abbrev pub replaced : List ℕ → ℕ → List ℕ → List ℕ

@@ -4,7 +4,8 @@ use Rattle.std.specs.List.{All}
 use Rattle.std.specs.Int.RustNames.{bit_xor}
 use Rattle.std.proofs.lemmas.List.Elements.{All-nil, All-cons, All-head, All-tail}
 use Rattle.std.proofs.lemmas.Nat.{xor_lt}
-use Rattle.des_core.specs.Bits.{IsBlock, exclusive_or}
+use Rattle.des_core.specs.Bits.{IsBlock}
+use Rattle.pad_words.specs.Bytes.{exclusive_or}
 use Rattle.cbc_mac.specs.Modes.{ecb, cbc, cbc_back}
 
 -- a cipher gives blocks, and its inverse undoes it

@@ -1,5 +1,5 @@
 -- The modes of operation of FIPS 81 over the blocks of a list of bytes, and the chain of an authentication code.
-use Rattle.des_core.specs.Bits.{exclusive_or}
+use Rattle.pad_words.specs.Bytes.{exclusive_or, zero_block}
 use Rattle.des_core.specs.TripleDes.{tdea_bytes, tdea_back_bytes}
 use Rattle.pad_words.specs.declared.Direction.{Direction}
 use Rattle.std.specs.Prelude.{List, [], drop, length, map, replicate, suc, take, zero, ℕ, ◌%◌, ◌++◌, ◌-◌, ◌/◌, ◌∷◌}
@@ -13,10 +13,6 @@ blocks (suc count) bytes = take 8 bytes ∷ blocks count (drop 8 bytes)
 -- the whole blocks of a list of bytes
 abbrev pub blocks_of : List ℕ → List (List ℕ)
 blocks_of bytes = blocks (length bytes / 8) bytes
-
--- eight zero bytes
-abbrev pub zero_block : List ℕ
-zero_block = 0 ∷ 0 ∷ 0 ∷ 0 ∷ 0 ∷ 0 ∷ 0 ∷ 0 ∷ []
 
 -- the bytes padded on the right with one byte to whole blocks
 unfoldable pub padded : List ℕ → ℕ → List ℕ

@@ -1,5 +1,5 @@
 ghost use Rattle.std.specs.Prelude.{◌≡◌, ◌+◌, ◌-◌, ◌≤◌, ◌++◌, length, replicate, take, drop};
-ghost use Rattle.des_core.specs.Bits.{exclusive_or};
+ghost use Rattle.pad_words.specs.Bytes.{exclusive_or};
 
 use pad_words::Block;
 
@@ -8,9 +8,7 @@ pub fn exclusive_or(a: Block, b: Block) -> Block
     ensures { result.0 ≡ exclusive_or a.0 b.0 }
 {
     let mut out = a.0;
-    for i in 0..8 {
-        out[i] ^= b.0[i];
-    }
+    pad_words::exclusive_or(&mut out, &b.0);
     Block(out)
 }
 

@@ -6,7 +6,8 @@ use Rattle.std.proofs.lemmas.Nat.{shr-shr, xor_shr, xor_mod, shr_split, shr_high
 use Rattle.std.proofs.lemmas.Nat.Bits.{bit_at_cat_low, bit_at_lowest}
 use Rattle.std.proofs.lemmas.List.{take_at, drop_at}
 use Rattle.std.proofs.Math.Nat.{suc-add, add_comm, mod-lt}
-use Rattle.des_core.specs.Bits.{bits_of, exclusive_or}
+use Rattle.des_core.specs.Bits.{bits_of}
+use Rattle.pad_words.specs.Bytes.{exclusive_or}
 
 pub length-bits_of : (width n : ℕ) → length (bits_of width n) ≡ width
 unfolding bits_of

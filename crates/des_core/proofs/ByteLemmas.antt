@@ -7,7 +7,8 @@ use Rattle.std.proofs.lemmas.List.{take_more, append_assoc, append-nil, take_all
 use Rattle.std.specs.List.{All}
 use Rattle.std.proofs.lemmas.List.Elements.{All-nil, All-cons}
 use Rattle.std.proofs.Math.Nat.{pow-suc, div-one, add-mul}
-use Rattle.des_core.specs.Bits.{bits_of, number_from, number_of, bits_of_bytes, bytes_of_bits, exclusive_or}
+use Rattle.des_core.specs.Bits.{bits_of, number_from, number_of, bits_of_bytes, bytes_of_bits}
+use Rattle.pad_words.specs.Bytes.{exclusive_or}
 use Rattle.des_core.proofs.BitLemmas.{length-bits_of, take-bits_of, drop-bits_of, bits_of-beside, bits_of-one}
 
 number_from-bits_of : (width m n : ℕ) → number_from m (bits_of width n) ≡ m * 2 ^ width + n % 2 ^ width

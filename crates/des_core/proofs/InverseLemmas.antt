@@ -4,7 +4,8 @@ use Rattle.std.specs.List.{range_with_len}
 use Rattle.std.specs.Int.RustNames.{bit_xor}
 use Rattle.std.specs.Int.Bits.{xor_self, xor_assoc, xor_zero_r}
 use Rattle.std.proofs.lemmas.List.{length-append, length-take-le, length-drop, take_at, drop_at, take-append-drop, reverse-append, reverse-reverse}
-use Rattle.des_core.specs.Bits.{bits_of, exclusive_or, bits_of_bytes}
+use Rattle.des_core.specs.Bits.{bits_of, bits_of_bytes}
+use Rattle.pad_words.specs.Bytes.{exclusive_or}
 use Rattle.des_core.specs.Permutations.{initial_permutation, final_permutation, round_permutation}
 use Rattle.des_core.specs.SelectionFunctions.{selection_functions}
 use Rattle.des_core.specs.Des.{bits_by_table, selection, selections, cipher_function, after_rounds, preoutput, output_block, round_keys, des, des_back, des_bytes, des_back_bytes}

@@ -3,7 +3,8 @@ use Rattle.std.proofs.Common.{◌≡◌, ℕ, ◌+◌, ◌-◌, ◌*◌, ◌/◌
 use Rattle.std.specs.Int.RustNames.{bit_or, bit_and}
 use Rattle.std.proofs.lemmas.Nat.{and_mask, shr_below}
 use Rattle.std.proofs.lemmas.List.{take_more_set, map_push, drop_more, append_assoc, drop_all, take_all, append-nil, map-append, reverse-append}
-use Rattle.des_core.specs.Bits.{bits_of, exclusive_or}
+use Rattle.des_core.specs.Bits.{bits_of}
+use Rattle.pad_words.specs.Bytes.{exclusive_or}
 use Rattle.des_core.specs.KeyTables.{permuted_choice_2}
 use Rattle.des_core.specs.Des.{left_rotation, round_keys_from, bits_by_table, after_rounds, cipher_function}
 use Rattle.des_core.proofs.BitLemmas.{take-bits_of, drop-bits_of, bits_of-mod, bits_of-beside, bits_of-or, or_after_shl}

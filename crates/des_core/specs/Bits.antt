@@ -1,5 +1,5 @@
 -- Numbers and bytes as lists of bits. A bit is 0 or 1, and the most significant bit comes first.
-use Rattle.std.specs.Prelude.{◌≡◌, ℕ, zero, suc, ◌+◌, ◌*◌, ◌<◌, List, [], ◌∷◌, ◌++◌, length, take, drop, bit_xor, All}
+use Rattle.std.specs.Prelude.{◌≡◌, ℕ, zero, suc, ◌+◌, ◌*◌, ◌<◌, List, [], ◌∷◌, ◌++◌, length, take, drop, All}
 use Rattle.std.specs.Int.{bit_at}
 
 -- the lowest `width` bits of a number
@@ -25,12 +25,6 @@ bits_of_bytes (byte ∷ bytes) = bits_of 8 byte ++ bits_of_bytes bytes
 unfoldable pub bytes_of_bits : ℕ → List ℕ → List ℕ
 bytes_of_bits zero bits = []
 bytes_of_bits (suc count) bits = number_of (take 8 bits) ∷ bytes_of_bits count (drop 8 bits)
-
--- the exclusive or of two lists, place by place
-unfoldable pub exclusive_or : List ℕ → List ℕ → List ℕ
-exclusive_or [] bits = []
-exclusive_or (a ∷ rest) [] = []
-exclusive_or (a ∷ rest) (b ∷ bits) = bit_xor a b ∷ exclusive_or rest bits
 
 -- the list is eight bytes
 abbrev pub IsBlock : List ℕ → Type 0

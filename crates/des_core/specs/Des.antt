@@ -1,6 +1,7 @@
 -- The Data Encryption Standard (FIPS 46-3) on lists of bits: a block and a key are 64 bits each.
 use Rattle.std.specs.Prelude.{ℕ, ◌+◌, ◌*◌, ◌-◌, List, [], ◌∷◌, ◌++◌, take, drop, map, reverse, slice_index, slice_index_or}
-use Rattle.des_core.specs.Bits.{bits_of, bits_of_bytes, bytes_of_bits, number_of, exclusive_or}
+use Rattle.des_core.specs.Bits.{bits_of, bits_of_bytes, bytes_of_bits, number_of}
+use Rattle.pad_words.specs.Bytes.{exclusive_or}
 use Rattle.des_core.specs.Permutations.{initial_permutation, final_permutation, bit_selection, round_permutation}
 use Rattle.des_core.specs.KeyTables.{permuted_choice_1, permuted_choice_2, left_shifts}
 use Rattle.des_core.specs.SelectionFunctions.{selection_functions}

@@ -1,11 +1,7 @@
 -- Triple DES (FIPS 46-3, TDEA) under a key of 8, 16 or 24 bytes: K1, K2 and K3. With 16 bytes K3 is K1, with 8 all three are equal.
 use Rattle.des_core.specs.Bits.{bits_of_bytes, bytes_of_bits}
 use Rattle.des_core.specs.Des.{des, des_back}
-use Rattle.std.specs.Prelude.{Bool, List, drop, if◌then◌else◌, length, nat_lt, take, ℕ, ◌==◌, ◌||◌, ◌≡◌}
-
--- how many bytes a key has: 8, 16 or 24
-abbrev pub is_key_length : ℕ → Bool
-is_key_length count = (count == 8) || (count == 16) || (count == 24)
+use Rattle.std.specs.Prelude.{List, drop, if◌then◌else◌, length, nat_lt, take, ℕ, ◌≡◌}
 
 -- K1: the first 8 bytes
 abbrev pub first_key : List ℕ → List ℕ

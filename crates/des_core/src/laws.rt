@@ -8,7 +8,8 @@ ghost use Rattle.des_core.specs.Permutations.{
 };
 ghost use Rattle.des_core.specs.KeyTables.{permuted_choice_1, permuted_choice_2, left_shifts};
 ghost use Rattle.des_core.specs.SelectionFunctions.{selection_functions};
-ghost use Rattle.des_core.specs.Bits.{exclusive_or, IsBlock};
+ghost use Rattle.des_core.specs.Bits.{IsBlock};
+ghost use Rattle.pad_words.specs.Bytes.{exclusive_or};
 ghost use Rattle.des_core.specs.Des.{des_bytes, des_back_bytes, des_number};
 ghost use Rattle.des_core.specs.TripleDes.{tdea_bytes, tdea_back_bytes};
 

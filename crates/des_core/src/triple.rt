@@ -40,7 +40,8 @@ impl Model for Tdea {
 }
 
 impl Tdea {
-    ghost use Rattle.des_core.specs.TripleDes.{is_key_length, tdea_bytes, tdea_back_bytes};
+    ghost use Rattle.des_core.specs.TripleDes.{tdea_bytes, tdea_back_bytes};
+    ghost use Rattle.pad_words.specs.KeyLengths.{is_key_length};
 
     /// Under 16 bytes K3 is K1, under 8 all three are equal.
     pub fn new(key: &[u8]) -> Result<Tdea, BadLength>

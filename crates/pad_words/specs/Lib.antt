@@ -1,3 +1,4 @@
 pub mod Bytes
+pub mod KeyLengths
 pub mod Names
 pub mod Numbers

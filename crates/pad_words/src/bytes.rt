@@ -1,6 +1,7 @@
 //! Bytes and half bytes: a list of bytes, a block of eight, a list of nibbles.
 ghost use Rattle.std.specs.Prelude.{◌≡◌, ◌<◌, ◌≤◌, ◌↔◌, ◌++◌, ◌∷◌, [], length, All, IsTrue, OnOk, OnErr, IfOk};
 ghost use Rattle.std.specs.Bool.{OnTrue, OnFalse};
+ghost use Rattle.pad_words.specs.Bytes.{exclusive_or};
 
 use crate::NoMemory;
 use arrayvec::ArrayVec;
@@ -88,6 +89,16 @@ impl Octets {
 /// Eight bytes, the block of DES (FIPS 46-3).
 #[derive(Clone, Copy, Debug, PartialEq, Eq)]
 pub struct Block(pub [u8; 8]);
+
+/// Each byte becomes its exclusive or with the byte in its place in the other list.
+pub fn exclusive_or(bytes: &mut [u8], other: &[u8])
+    requires { length bytes.old ≡ length other.now }
+    ensures { bytes.new ≡ exclusive_or bytes.old other.now }
+{
+    for i in 0..bytes.len() {
+        bytes[i] ^= other[i];
+    }
+}
 
 /// At most 48 values of 0 to 15.
 #[derive(Drop)]

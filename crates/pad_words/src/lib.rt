@@ -5,7 +5,7 @@ pub mod bytes;
 pub mod names;
 pub mod numbers;
 
-pub use bytes::{Block, Nibbles, Octets};
+pub use bytes::{Block, Nibbles, Octets, exclusive_or};
 pub use names::KeyName;
 pub use numbers::{Digit, Session};
 

@@ -8,9 +8,8 @@ use Rattle.std.proofs.lemmas.List.{length-append, length-take-le, places, take-t
 use Rattle.std.proofs.lemmas.List.Elements.{All-append, All-cons, All-drop, All-head, All-map, All-nil, All-replicate, All-tail, All-take, All-weaker}
 use Rattle.std.proofs.lemmas.List.Sums.{AllPass-from_list_all}
 use Rattle.std.proofs.lemmas.Nat.{xor_lt}
-use Rattle.des_core.specs.Bits.{exclusive_or}
+use Rattle.pad_words.specs.Bytes.{exclusive_or, packed}
 use Rattle.pad_steps.specs.Accounts.{all_decimal, is_pan}
-use Rattle.pad_words.specs.Bytes.{packed}
 use Rattle.pad_words.specs.declared.numbers.Digit.{Digit}
 use Rattle.pin_blocks.specs.Blocks.{pan_field, sixteen}
 

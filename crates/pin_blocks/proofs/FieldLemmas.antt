@@ -3,8 +3,7 @@ use Rattle.std.proofs.Common.{◌≡◌, ℕ, suc, ◌+◌, ◌*◌, ◌-◌, �
 use Rattle.std.specs.Int.RustNames.{bit_xor}
 use Rattle.std.proofs.Math.Seq.{take-append-add}
 use Rattle.std.proofs.lemmas.List.{length-take-le, set_at, take_all, take_more, take-replicate}
-use Rattle.des_core.specs.Bits.{exclusive_or}
-use Rattle.pad_words.specs.Bytes.{packed}
+use Rattle.pad_words.specs.Bytes.{exclusive_or, packed}
 use Rattle.pin_blocks.specs.Blocks.{sixteen}
 
 -- the PIN field after the first `count` digits

@@ -1,5 +1,5 @@
 -- PIN blocks: formats 0, 1 and 3 of ISO 9564-1, and those of the IBM 3624 and of Diebold. A block is a list of 16 nibbles.
-use Rattle.des_core.specs.Bits.{exclusive_or}
+use Rattle.pad_words.specs.Bytes.{exclusive_or}
 use Rattle.pad_steps.specs.Accounts.{all_decimal, is_pan}
 use Rattle.pad_steps.specs.declared.commands.Form.{Form}
 use Rattle.pad_steps.specs.declared.commands.Form.TheVariants as forms

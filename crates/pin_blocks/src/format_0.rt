@@ -1,8 +1,7 @@
 //! Format 0 of ISO 9564-1: the PIN field XORed with the account number field.
 ghost use Rattle.std.specs.Prelude.{◌≡◌, ◌<◌, ◌≤◌, ◌∷◌, ◌++◌, All, IsTrue, length, map, replicate};
-ghost use Rattle.des_core.specs.Bits.{exclusive_or};
+ghost use Rattle.pad_words.specs.Bytes.{exclusive_or, packed};
 ghost use Rattle.pad_steps.specs.Accounts.{is_pan};
-ghost use Rattle.pad_words.specs.Bytes.{packed};
 ghost use Rattle.pin_blocks.specs.Blocks.{pan_field, sixteen};
 
 use pad_words::{Block, Digit};
@@ -35,10 +34,8 @@ fn account_field(customer: &[u8]) -> [u8; 16]
 fn exclusive_or(a: &[u8; 16], b: &[u8; 16]) -> [u8; 16]
     ensures { result ≡ exclusive_or a.now b.now }
 {
-    let mut nibbles = [0; 16];
-    for i in 0..16 {
-        nibbles[i] = a[i] ^ b[i];
-    }
+    let mut nibbles = *a;
+    pad_words::exclusive_or(&mut nibbles, b);
     nibbles
 }
 

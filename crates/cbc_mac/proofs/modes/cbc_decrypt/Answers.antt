@@ -1,6 +1,6 @@
 use Rattle.std.proofs.Common.{◌≡◌, ◌*◌, ◌/◌, List, ℕ, length, take, drop, ap, ◌∙◌, arith, rules}
 use Rattle.std.specs.List.{concat}
-use Rattle.des_core.specs.Bits.{exclusive_or}
+use Rattle.pad_words.specs.Bytes.{exclusive_or}
 use Rattle.des_core.specs.TripleDes.{tdea_back_bytes}
 use Rattle.cbc_mac.specs.Modes.{cbc_back}
 use Rattle.cbc_mac.proofs.ModeLemmas.{in_place, in_place_end, length-replaced, concat-cbc_back, concat-cbc_back-none}

@@ -1,5 +1,6 @@
 use Rattle.std.proofs.Common.{refl}
-use Rattle.des_core.specs.Bits.{bits_of, exclusive_or, number_of, number_from}
+use Rattle.des_core.specs.Bits.{bits_of, number_of, number_from}
+use Rattle.pad_words.specs.Bytes.{exclusive_or}
 use Rattle.des_core.specs.Des.{des_number, des, output_block, preoutput, bits_by_table, after_rounds, cipher_function, selections, selection, row_of, column_of, round_keys, round_keys_from, left_rotation}
 use Rattle.des_core.proofs.laws.known_answers.Goals as goal
 

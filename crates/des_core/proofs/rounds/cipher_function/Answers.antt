@@ -1,5 +1,6 @@
 use Rattle.std.proofs.Common.{ap, ◌∙◌}
-use Rattle.des_core.specs.Bits.{bits_of, exclusive_or}
+use Rattle.des_core.specs.Bits.{bits_of}
+use Rattle.pad_words.specs.Bytes.{exclusive_or}
 use Rattle.des_core.specs.Permutations.{round_permutation}
 use Rattle.des_core.specs.SelectionFunctions.{selection_functions}
 use Rattle.des_core.specs.Des.{cipher_function, bits_by_table, selections}

@@ -1,5 +1,6 @@
 use Rattle.std.proofs.Common.{ap, arith, ◌∙◌, ◌+◌, map, drop}
-use Rattle.des_core.specs.Bits.{bits_of, exclusive_or}
+use Rattle.des_core.specs.Bits.{bits_of}
+use Rattle.pad_words.specs.Bytes.{exclusive_or}
 use Rattle.des_core.specs.Des.{after_rounds, preoutput}
 use Rattle.des_core.proofs.BitLemmas.{bits_of-xor, bits_of-parts, bits_of-or}
 use Rattle.des_core.proofs.RoundLemmas.{after_rounds-drop, after_rounds_end, same_two}

@@ -1,7 +1,7 @@
 use Rattle.std.proofs.Common.{List, ap, arith, length, map, replicate, sym, ℕ, ◌++◌, ◌<◌, ◌≡◌, ◌∙◌, ◌∷◌}
 use Rattle.std.proofs.lemmas.List.{length-map}
 use Rattle.std.proofs.lemmas.List.Elements.{All-same}
-use Rattle.des_core.specs.Bits.{exclusive_or}
+use Rattle.pad_words.specs.Bytes.{exclusive_or}
 use Rattle.pad_words.specs.declared.numbers.Digit.{Digit}
 use Rattle.pin_blocks.specs.Blocks.{pan_field, sixteen}
 use Rattle.pin_blocks.proofs.BlockLemmas.{AreDecimal-digits, AreNibbles-format_0, pin_field}

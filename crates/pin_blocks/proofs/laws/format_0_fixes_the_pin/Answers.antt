@@ -1,6 +1,6 @@
 use Rattle.std.proofs.Common.{◌∙◌, sym}
 use Rattle.pin_blocks.specs.Blocks.{pan_field}
-use Rattle.des_core.specs.Bits.{exclusive_or}
+use Rattle.pad_words.specs.Bytes.{exclusive_or}
 use Rattle.pin_blocks.proofs.BlockLemmas.{AreNibbles-format_0, length-format_0, packed-injective, pin_field, pin_from_nibbles}
 use Rattle.pin_blocks.proofs.laws.format_0_fixes_the_pin.Goals as goal
 

@@ -1,5 +1,5 @@
 use Rattle.pin_blocks.specs.Blocks.{pan_field}
-use Rattle.des_core.specs.Bits.{exclusive_or}
+use Rattle.pad_words.specs.Bytes.{exclusive_or}
 use Rattle.pin_blocks.proofs.BlockLemmas.{AreNibbles-format_0, length-format_0, length-packed, packed-small, pin_field}
 use Rattle.pin_blocks.proofs.laws.format_0_is_eight_bytes.Goals as goal
 

@@ -1,5 +1,5 @@
 use Rattle.std.proofs.Common.{◌≡◌, ◌++◌, ◌-◌, replicate, take, ap, subst, sym, ◌∙◌}
-use Rattle.des_core.specs.Bits.{exclusive_or}
+use Rattle.pad_words.specs.Bytes.{exclusive_or}
 use Rattle.des_core.specs.Des.{des_bytes}
 use Rattle.cbc_mac.specs.Macs.{Fed, mac}
 use Rattle.cbc_mac.proofs.MacLemmas.{last_whole, last_filled, left_of}
