@@ -1,6 +1,7 @@
 -- CRYPT: bytes encrypted, decrypted or authenticated (FIPS 81, and in the manner of ANSI X9.9 and X9.19).
 use Rattle.cbc_mac.specs.Macs.{mac, retail}
-use Rattle.cbc_mac.specs.Modes.{blocks_of, cbc, cbc_back, ecb, padded, zero_block}
+use Rattle.cbc_mac.specs.Modes.{blocks_of, cbc, cbc_back, ecb, padded}
+use Rattle.pad_words.specs.Bytes.{zero_block}
 use Rattle.crypt_commands.specs.declared.CryptOut.{CryptOut}
 use Rattle.crypt_commands.specs.declared.CryptOut.TheVariants as output
 use Rattle.pad_steps.specs.declared.commands.Algorithm.{Algorithm}

@@ -12,7 +12,7 @@ ghost use Rattle.pad_steps.specs.declared.commands.Algorithm.TheVariants.{Cfb};
 
 use cbc_mac::laws::codes_by_triple_des;
 use cbc_mac::{Mac, MacKind, cbc, ecb};
-use des_core::Tdea;
+use check_values::cipher_of;
 use key_attributes::KeyValue;
 use pad_steps::{Algorithm, CryptRequest, Start};
 use pad_words::{Block, Direction, NoMemory, Octets};
@@ -95,17 +95,6 @@ fn has_wrong_length(direction: Direction, bytes: &[u8]) -> bool
     ensures { result ≡ wrong_length direction (length bytes.now) }
 {
     bytes.is_empty() || (direction == Direction::Decrypt && bytes.len() % 8 != 0)
-}
-
-/// Triple DES under a key (FIPS 46-3).
-pub fn cipher_of(key: &KeyValue) -> Tdea
-    ensures { result ≡ key.now }
-{
-    match Tdea::new(key.bytes()) {
-        Ok(cipher) => cipher,
-        // A key value has 8, 16 or 24 bytes.
-        Err(_) => unreachable!(),
-    }
 }
 
 // The bytes of a request, padded on the right to whole blocks where they are to be encrypted.

@@ -1,0 +1,217 @@
+//! Keys put, replaced, removed and denied, and duplicates, against answers written down by hand.
+use crate::{Denied, KeyNotFound, KeyTable, TableFull};
+use key_attributes::{KeyRow, KeyValue, Use, Uses};
+use pad_words::KeyName;
+use std::test::Fail;
+
+const CRYPT: u16 = 1;
+
+const FUNCTION: u16 = 2;
+
+const NO_DUPLICATE: u16 = 16;
+
+const CONSTRUCT: u16 = 64;
+
+const SECURE_CONSTRUCT: u16 = 128;
+
+/// A row of this name and these uses, whose value is eight times this byte.
+fn key(name: &[u8], byte: u8, uses: u16) -> Result<KeyRow, Fail> {
+    Ok(KeyRow {
+        name: KeyName::read(name).ok_or("a name")?,
+        value: KeyValue::new(&[byte; 8]).ok_or("a value")?,
+        uses: Uses::from_bits(uses).ok_or("uses")?,
+    })
+}
+
+/// What is done to the table.
+#[derive(Clone, Copy)]
+enum Step {
+    Put(&'static [u8], u8),
+    Remove(&'static [u8]),
+}
+
+/// A step, and then the slots with their names and bytes.
+#[derive(Clone, Copy)]
+struct Row {
+    step: Step,
+    rows: &'static [(u8, &'static [u8], u8)],
+}
+
+const ROWS: &[Row] = &[
+    Row {
+        step: Step::Put(b"A", 1),
+        rows: &[(0, b"A", 1)],
+    },
+    Row {
+        step: Step::Put(b"B", 2),
+        rows: &[(0, b"A", 1), (1, b"B", 2)],
+    },
+    Row {
+        step: Step::Put(b"C", 3),
+        rows: &[(0, b"A", 1), (1, b"B", 2), (2, b"C", 3)],
+    },
+    // A present name keeps its slot.
+    Row {
+        step: Step::Put(b"B", 9),
+        rows: &[(0, b"A", 1), (1, b"B", 9), (2, b"C", 3)],
+    },
+    Row {
+        step: Step::Remove(b"B"),
+        rows: &[(0, b"A", 1), (2, b"C", 3)],
+    },
+    Row {
+        step: Step::Remove(b"A"),
+        rows: &[(2, b"C", 3)],
+    },
+    // A present name keeps its slot though lower ones are empty.
+    Row {
+        step: Step::Put(b"C", 4),
+        rows: &[(2, b"C", 4)],
+    },
+    // The lowest empty slot first.
+    Row {
+        step: Step::Put(b"D", 5),
+        rows: &[(0, b"D", 5), (2, b"C", 4)],
+    },
+    Row {
+        step: Step::Put(b"E", 6),
+        rows: &[(0, b"D", 5), (1, b"E", 6), (2, b"C", 4)],
+    },
+    Row {
+        step: Step::Put(b"F", 7),
+        rows: &[(0, b"D", 5), (1, b"E", 6), (2, b"C", 4), (3, b"F", 7)],
+    },
+];
+
+#[test]
+fn slots(rt: HostRuntime) -> Result<(), Fail> {
+    let mut table = KeyTable::new(rt.alloc())?;
+    for (place, row) in ROWS.iter().enumerate() {
+        match row.step {
+            Step::Put(name, byte) => {
+                let done = table.put(&key(name, byte, CRYPT)?);
+                assert!(rt; done == Ok(()), "row {place}");
+            }
+            Step::Remove(name) => {
+                let name = KeyName::read(name).ok_or("a name")?;
+                assert!(rt; table.remove(&name) == Ok(()), "row {place}");
+                assert!(rt; table.remove(&name) == Err(KeyNotFound), "row {place}");
+                assert!(rt; table.find(&name).is_none(), "row {place}");
+            }
+        }
+        assert!(rt; table.rows().len() == row.rows.len(), "row {place}");
+        for (at, (slot, name, byte)) in row.rows.iter().enumerate() {
+            let (is_slot, is) = &table.rows()[at];
+            let same = *is_slot == *slot && is.name.text() == *name;
+            assert!(rt;
+                same && is.value.bytes() == [*byte; 8].as_slice(),
+                "row {place}"
+            );
+            let stands = match table.row(*slot) {
+                Some(is) => is.name.text() == *name,
+                None => false,
+            };
+            assert!(rt; stands, "row {place}");
+        }
+    }
+    assert!(rt; table.row(4).is_none());
+    Ok(())
+}
+
+#[test]
+fn a_full_table(rt: HostRuntime) -> Result<(), Fail> {
+    let mut table = KeyTable::new(rt.alloc())?;
+    for number in 0..64u8 {
+        let name = [b'K', b'0' + number / 10, b'0' + number % 10];
+        assert!(rt;
+            table.put(&key(&name, number, CRYPT)?) == Ok(()),
+            "key {number}"
+        );
+    }
+    assert!(rt; table.put(&key(b"K64", 64, CRYPT)?) == Err(TableFull));
+    assert!(rt; table.rows().len() == 64);
+    assert!(rt; table.put(&key(b"K10", 99, CRYPT)?) == Ok(()));
+    let name = KeyName::read(b"K10").ok_or("a name")?;
+    let row = table.find(&name).ok_or("a row")?;
+    assert!(rt; row.value.bytes() == [99; 8].as_slice());
+    assert!(rt; table.remove(&name) == Ok(()));
+    assert!(rt; table.put(&key(b"K64", 64, CRYPT)?) == Ok(()));
+    let row = table.row(10).ok_or("a row")?;
+    assert!(rt; row.name.text() == b"K64".as_slice());
+    assert!(rt; table.put(&key(b"K10", 10, CRYPT)?) == Err(TableFull));
+    Ok(())
+}
+
+#[test]
+fn permits(rt: HostRuntime) -> Result<(), Fail> {
+    let mut table = KeyTable::new(rt.alloc())?;
+    assert!(rt; table.put(&key(b"WHOLE", 1, CRYPT)?) == Ok(()));
+    assert!(rt; table.put(&key(b"PART", 2, CRYPT | CONSTRUCT)?) == Ok(()));
+    assert!(rt; table.put(&key(b"SECRET", 3, CRYPT | SECURE_CONSTRUCT)?) == Ok(()));
+    // a name, a use, and the first byte of the value or why it is denied
+    let rows: [(&[u8], Use, Result<u8, Denied>); 7] = [
+        (b"WHOLE", Use::Crypt, Ok(1)),
+        (b"WHOLE", Use::Function, Err(Denied::UseViolation)),
+        (b"PART", Use::Crypt, Err(Denied::KeyNoValue)),
+        (b"PART", Use::Function, Err(Denied::KeyNoValue)),
+        (b"SECRET", Use::Function, Err(Denied::KeyNoValue)),
+        (b"NONE", Use::Crypt, Err(Denied::KeyNotFound)),
+        (b"NONE", Use::Function, Err(Denied::KeyNotFound)),
+    ];
+    for (place, (name, wanted, answer)) in rows.iter().enumerate() {
+        let name = KeyName::read(name).ok_or("a name")?;
+        let same = match (table.permit(&name, *wanted), answer) {
+            (Ok(value), Ok(byte)) => value.bytes() == [*byte; 8].as_slice(),
+            (Err(denied), Err(wanted)) => denied == *wanted,
+            _ => false,
+        };
+        assert!(rt; same, "row {place}");
+    }
+    Ok(())
+}
+
+/// The keys of the table: a name, a byte and uses.
+const KEPT: &[(&[u8], u8, u16)] = &[
+    (b"A", 1, CRYPT),
+    (b"B", 2, CRYPT | NO_DUPLICATE),
+    (b"C", 2, FUNCTION | NO_DUPLICATE),
+    (b"D", 3, CRYPT | NO_DUPLICATE | CONSTRUCT),
+    (b"E", 4, CRYPT),
+    (b"F", 4, CRYPT | NO_DUPLICATE),
+];
+
+/// A new key, and the name of the key that it doubles.
+const DOUBLED: &[(&[u8], u8, u16, Option<&[u8]>)] = &[
+    (b"NEW", 1, CRYPT, None),
+    // forbidden by the new key
+    (b"NEW", 1, CRYPT | NO_DUPLICATE, Some(b"A")),
+    // forbidden by the old key, and the lower of two
+    (b"NEW", 2, CRYPT, Some(b"B")),
+    // its own name is no duplicate
+    (b"A", 1, CRYPT | NO_DUPLICATE, None),
+    (b"B", 2, CRYPT, Some(b"C")),
+    // the new key is under construction, or the old one
+    (b"NEW", 2, CRYPT | NO_DUPLICATE | CONSTRUCT, None),
+    (b"NEW", 3, CRYPT | NO_DUPLICATE, None),
+    // the lower key does not forbid it, the higher one does
+    (b"NEW", 4, CRYPT, Some(b"F")),
+    (b"NEW", 4, CRYPT | NO_DUPLICATE, Some(b"E")),
+    (b"NEW", 5, CRYPT | NO_DUPLICATE, None),
+];
+
+#[test]
+fn duplicates(rt: HostRuntime) -> Result<(), Fail> {
+    let mut table = KeyTable::new(rt.alloc())?;
+    for (name, byte, uses) in KEPT {
+        assert!(rt; table.put(&key(name, *byte, *uses)?) == Ok(()));
+    }
+    for (place, (name, byte, uses, answer)) in DOUBLED.iter().enumerate() {
+        let same = match (table.duplicate(&key(name, *byte, *uses)?), answer) {
+            (Some(name), Some(wanted)) => name.text() == *wanted,
+            (None, None) => true,
+            _ => false,
+        };
+        assert!(rt; same, "row {place}");
+    }
+    Ok(())
+}
