@@ -1,6 +1,4 @@
 -- Steps that a line of the script spells, as far as lines are built.
-use Rattle.key_attributes.specs.UseBits.{allows, forbids_duplicates, uses_valid}
-use Rattle.key_attributes.specs.declared.Use.TheVariants as purpose
 use Rattle.key_source.specs.declared.Key.{Key}
 use Rattle.key_source.specs.declared.Key.TheVariants as keypad
 use Rattle.key_source.specs.declared.Mask.{Mask}
@@ -19,9 +17,6 @@ use Rattle.pad_steps.specs.declared.commands.PinRequest.{PinRequest}
 use Rattle.pad_steps.specs.declared.commands.PinRequest.TheVariants as pin
 use Rattle.pad_steps.specs.declared.commands.Start.{Start}
 use Rattle.pad_steps.specs.declared.commands.Start.TheVariants as started
-use Rattle.pad_steps.specs.declared.commands.Verify.{Verify}
-use Rattle.pad_steps.specs.declared.commands.Verify.TheVariants as verify
-use Rattle.pad_steps.specs.declared.steps.Classes.{Classes}
 use Rattle.pad_steps.specs.declared.steps.Step.{Step}
 use Rattle.pad_steps.specs.declared.steps.Step.TheVariants as step
 use Rattle.pad_words.specs.Names.{is_key_name}
@@ -33,10 +28,6 @@ use Rattle.std.specs.Prelude.{Bool, List, false, is_none, length, nat_le, nat_lt
 -- the session that a line may name: 1 alone
 abbrev pub is_built_session : Session → Bool
 is_built_session s = s.number == 1
-
--- execute events alone
-abbrev pub is_execute_alone : Classes → Bool
-is_execute_alone c = not c.service && c.execute
 
 -- digits, ENTER, CANCEL, CLEAR and BACKSPACE: key bits 0 to 9 and 16 to 19
 abbrev pub entry_keys : Mask
@@ -79,29 +70,19 @@ is_built_pin (pin.Extra request) = false
 abbrev pub all_bytes : List ℕ → Bool
 all_bytes values = list_all (λ value. nat_lt value 256) values
 
--- 8, 16 or 24 bytes: a DES key, or a triple DES key of two or three parts (FIPS 46-3)
-abbrev pub is_key_length : ℕ → Bool
-is_key_length size = (size == 8) || (size == 16) || (size == 24)
+-- 1 to 64 bytes, whether or not a key may be so long
+abbrev pub is_built_value : List ℕ → Bool
+is_built_value value = nat_le 1 (length value) && nat_le (length value) 64 && all_bytes value
 
--- a key in clear
+-- a value in clear, or sealed under a key
 abbrev pub is_built_source : ImportSource → Bool
-is_built_source (origin.Clear value) = is_key_length (length value) && all_bytes value
-is_built_source (origin.Sealed name value) = false
+is_built_source (origin.Clear value) = is_built_value value
+is_built_source (origin.Sealed name value) = is_key_name name && is_built_value value
 is_built_source origin.Part = false
 
--- no check value is asked for
-abbrev pub is_unchecked : Verify → Bool
-is_unchecked verify.Nothing = true
-is_unchecked verify.Own = false
-is_unchecked verify.Zero = false
-
--- one or more of CRYPT, FUNCTION, MACING and SVENCKEY, and nothing else
-abbrev pub is_built_uses : ℕ → Bool
-is_built_uses uses = uses_valid uses && nat_lt uses 64 && not (allows uses purpose.KeyEncKey) && not (forbids_duplicates uses)
-
--- the import that a line may ask for: a key in clear, without a check value
+-- the import that a line may ask for: a value in clear or sealed, any word of uses, any check value
 abbrev pub is_built_import : ImportRequest → Bool
-is_built_import request = is_key_name request.name && is_built_source request.source && is_built_uses request.uses && is_unchecked request.verify
+is_built_import request = is_key_name request.name && is_built_source request.source && nat_lt request.uses 65536
 
 -- eight bytes
 abbrev pub is_block : Block → Bool
@@ -126,10 +107,10 @@ is_well_formed_command (command.MaintainPin on) = false
 is_well_formed_command (command.Pin request) = is_built_pin request
 is_well_formed_command (command.Crypt request) = is_built_crypt request
 is_well_formed_command (command.ImportKey request) = is_built_import request
-is_well_formed_command (command.DeleteKey name) = false
+is_well_formed_command (command.DeleteKey name) = is_key_name name
 is_well_formed_command command.Init = false
 is_well_formed_command command.Reset = false
-is_well_formed_command command.RsaImport = false
+is_well_formed_command command.RsaImport = true
 
 -- a key that a line may press: a digit, ENTER, CANCEL, CLEAR or BACKSPACE
 abbrev pub is_built_key : Key → Bool
@@ -146,7 +127,7 @@ is_built_key (keypad.Fdk n) = false
 abbrev pub is_scripted : Step → Bool
 is_scripted (step.Open s) = is_built_session s
 is_scripted (step.Close s) = false
-is_scripted (step.Listen s classes) = is_built_session s && is_execute_alone classes
+is_scripted (step.Listen s classes) = is_built_session s
 is_scripted (step.Lock s) = false
 is_scripted (step.Unlock s) = false
 is_scripted (step.Submit s limit c) = is_built_session s && (limit == 0) && is_well_formed_command c

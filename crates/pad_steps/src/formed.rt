@@ -1,15 +1,14 @@
 //! Which steps and commands a line of the script spells, as far as lines are built.
 ghost use Rattle.std.specs.Prelude.{◌≡◌, ◌&&◌, length, nat_le, nat_lt};
 ghost use Rattle.pad_words.specs.Names.{is_key_name};
-ghost use Rattle.pad_steps.specs.Formed.{all_bytes, is_block, is_built_block, is_built_crypt, is_built_entry, is_built_import, is_built_key, is_built_pin, is_built_session, is_built_source, is_built_start, is_built_uses, is_execute_alone, is_key_length, is_scripted, is_well_formed, is_well_formed_command, same_mask};
+ghost use Rattle.pad_steps.specs.Formed.{all_bytes, is_block, is_built_block, is_built_crypt, is_built_entry, is_built_import, is_built_key, is_built_pin, is_built_session, is_built_source, is_built_start, is_built_value, is_scripted, is_well_formed, is_well_formed_command, same_mask};
 
 use crate::accounts::is_pan;
 use crate::commands::{
     BlockRequest, Command, CryptRequest, EntryRules, Form, ImportRequest, ImportSource, PinRequest,
-    Start, Verify,
+    Start,
 };
-use crate::steps::{Classes, Step};
-use key_attributes::{Use, Uses};
+use crate::steps::Step;
 use key_source::{Key, Mask};
 use pad_words::{Block, KeyName, Session};
 
@@ -30,13 +29,6 @@ fn built_session(session: &Session) -> bool
     ensures { result ≡ is_built_session session.now }
 {
     session.number == 1
-}
-
-// execute events alone
-fn execute_alone(classes: &Classes) -> bool
-    ensures { result ≡ is_execute_alone classes.now }
-{
-    !classes.service && classes.execute
 }
 
 // the two masks have the same keys
@@ -102,41 +94,37 @@ fn is_byte(value: u8) -> bool
     true
 }
 
-// 8, 16 or 24 bytes
-fn key_bytes(values: &[u8]) -> bool
-    ensures { result ≡ is_key_length (length values.now) && all_bytes values.now }
+// 1 to 64 bytes
+fn built_value(values: &[u8]) -> bool
+    ensures { result ≡ is_built_value values.now }
 {
-    matches!(values.len(), 8 | 16 | 24) && are_bytes(values)
+    !values.is_empty() && values.len() <= 64 && are_bytes(values)
 }
 
-// a key in clear
+// a value in clear, or sealed under a key
 fn built_source(source: &ImportSource) -> bool
     ensures { result ≡ is_built_source source.now }
 {
     match source {
-        ImportSource::Clear(value) => key_bytes(value.items()),
-        ImportSource::Sealed(_, _) | ImportSource::Part => false,
+        ImportSource::Clear(value) => built_value(value.items()),
+        ImportSource::Sealed(name, value) => is_named(name) && built_value(value.items()),
+        ImportSource::Part => false,
     }
 }
 
-// one or more of CRYPT, FUNCTION, MACING and SVENCKEY, and nothing else
-fn built_uses(bits: u16) -> bool
-    ensures { result ≡ is_built_uses bits }
+// 16 bits: its type says so
+fn is_uses_word(value: u16) -> bool
+    ensures { result ≡ nat_lt value 65536 }
 {
-    match Uses::from_bits(bits) {
-        Some(uses) => bits < 64 && !uses.allows(Use::KeyEncKey) && !uses.forbids_duplicates(),
-        None => false,
-    }
+    let _ = value;
+    true
 }
 
-// a key in clear, without a check value
+// a value in clear or sealed, any word of uses, any check value
 fn built_import(request: &ImportRequest) -> bool
     ensures { result ≡ is_built_import request.now }
 {
-    is_named(&request.name)
-        && built_source(&request.source)
-        && built_uses(request.uses)
-        && request.verify == Verify::Nothing
+    is_named(&request.name) && built_source(&request.source) && is_uses_word(request.uses)
 }
 
 // eight bytes: its type says so
@@ -194,6 +182,8 @@ impl Command {
             Command::Pin(request) => built_pin(request),
             Command::Crypt(request) => built_crypt(request),
             Command::ImportKey(request) => built_import(request),
+            Command::DeleteKey(name) => is_named(name),
+            Command::RsaImport => true,
             _ => false,
         }
     }
@@ -206,7 +196,7 @@ impl Step {
     {
         match self {
             Step::Open(session) => built_session(session),
-            Step::Listen(session, classes) => built_session(session) && execute_alone(classes),
+            Step::Listen(session, _) => built_session(session),
             Step::Submit(session, limit, command) => {
                 built_session(session) && *limit == 0 && command.well_formed()
             }

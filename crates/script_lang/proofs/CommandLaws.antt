@@ -1,10 +1,10 @@
 -- The laws of each command: what is read is spelled so, and what is spelled so is read.
-use Rattle.std.proofs.Common.{◌≡◌, ℕ, List, Some, refl, ap, subst, ◌∙◌, arith, rules}
+use Rattle.std.proofs.Common.{◌≡◌, ℕ, List, [], ◌∷◌, Some, refl, ap, subst, ◌∙◌, arith, rules}
 use Rattle.std.specs.Prelude.{codes}
 use Rattle.script_lang.specs.Words.{Says}
-use Rattle.script_lang.specs.Reading.{read_number, read_rules, read_pinblock, read_import, read_crypt, command_rows, read_command}
+use Rattle.script_lang.specs.Reading.{with_field, ended, read_name, read_number, read_rules, read_pinblock, read_import, read_crypt, command_rows, read_command}
 use Rattle.std.specs.Option.{option_map}
-use Rattle.script_lang.specs.Spelling.{number_word, end_word, mask_word, rules_words, block_words, crypt_words, import_words, command_words}
+use Rattle.script_lang.specs.Spelling.{name_word, number_word, end_word, mask_word, rules_words, block_words, crypt_words, import_words, command_words}
 use Rattle.pad_steps.specs.declared.commands.BlockRequest.{BlockRequest}
 use Rattle.pad_steps.specs.declared.commands.CryptRequest.{CryptRequest}
 use Rattle.pad_steps.specs.declared.commands.EntryRules.{EntryRules}
@@ -13,14 +13,15 @@ use Rattle.pad_steps.specs.declared.commands.PinRequest.TheVariants as pin
 use Rattle.pad_steps.specs.declared.commands.Command.{Command}
 use Rattle.pad_steps.specs.declared.commands.Command.TheVariants as command
 use Rattle.script_lang.proofs.CryptLaws.{crypt_reads}
-use Rattle.script_lang.proofs.Fits.{CommandFits, MaskFits, RulesFit}
+use Rattle.script_lang.proofs.Fits.{CommandFits, MaskFits, NameFits, RulesFit}
 use Rattle.script_lang.proofs.HexLaws.{mask_field}
 use Rattle.script_lang.proofs.ImportLaws.{import_reads}
+use Rattle.script_lang.proofs.NameLaws.{name_field}
 use Rattle.script_lang.proofs.PinBlockLaws.{block_reads}
 use Rattle.script_lang.proofs.NumberLaws.{Within, number_field}
 use Rattle.script_lang.proofs.Options.{mapped_some}
 use Rattle.script_lang.proofs.Readers.{Always, Ended, IsField, Reads, Then, ended_reads, with_field_reads}
-use Rattle.script_lang.proofs.RowLaws.{After, RowTakes, Spelled, one_of_again, one_of_takes, says_end}
+use Rattle.script_lang.proofs.RowLaws.{After, RowTakes, Spelled, one_again, one_of_again, one_of_takes, row_none, row_one, says_end}
 use Rattle.script_lang.proofs.WordLaws.{end_field}
 
 -- ---- rules of an entry
@@ -78,9 +79,15 @@ crypt_takes bytes c e =
     let s = crypt_reads.takes bytes r.0 r.1 in
     subst (λ c. CommandFits c × After (codes "crypt") bytes (command_words c)) r.2 (s.0, (refl, s.1))
 
+delete_takes : RowTakes CommandFits command_words (codes "delete", with_field read_name (λ name. ended (command.DeleteKey name)))
+delete_takes = row_one read_name NameFits name_word (λ name. command.DeleteKey name) CommandFits command_words (codes "delete") name_field (λ name f. f) (λ name. refl)
+
+rsa_takes : RowTakes CommandFits command_words (codes "rsa", ended command.RsaImport)
+rsa_takes = row_none CommandFits command_words (codes "rsa") command.RsaImport tt refl
+
 command_takes : (bytes : List ℕ) (c : Command) → read_command bytes ≡ Some c → Spelled CommandFits command_words c bytes
 unfolding read_command
-command_takes = one_of_takes CommandFits command_words command_rows (getpin_takes, (pinblock_takes, (import_takes, (crypt_takes, tt))))
+command_takes = one_of_takes CommandFits command_words command_rows (getpin_takes, (pinblock_takes, (import_takes, (crypt_takes, (delete_takes, (rsa_takes, tt))))))
 
 command_again : (bytes : List ℕ) (c : Command) → CommandFits c → Says bytes (command_words c) → read_command bytes ≡ Some c
 unfolding read_command
@@ -93,10 +100,10 @@ command_again bytes (command.Pin (pin.Check r)) fits s = absurd fits
 command_again bytes (command.Pin (pin.Extra r)) fits s = absurd fits
 command_again bytes (command.Crypt r) fits s = one_of_again command_rows (codes "crypt") (crypt_words r) bytes s ∙ ap (option_map (λ (request : CryptRequest). command.Crypt request)) (crypt_reads.again s.0 r (fits, s.2))
 command_again bytes (command.ImportKey r) fits s = one_of_again command_rows (codes "import") (import_words r) bytes s ∙ ap (option_map (λ (request : ImportRequest). command.ImportKey request)) (import_reads.again s.0 r (fits, s.2))
-command_again bytes (command.DeleteKey name) fits s = absurd fits
+command_again bytes (command.DeleteKey name) fits s = one_of_again command_rows (codes "delete") (name_word name ∷ []) bytes s ∙ one_again read_name NameFits name_word (λ name. command.DeleteKey name) name_field s.0 name fits s.2
 command_again bytes command.Init fits s = absurd fits
 command_again bytes command.Reset fits s = absurd fits
-command_again bytes command.RsaImport fits s = absurd fits
+command_again bytes command.RsaImport fits s = one_of_again command_rows (codes "rsa") [] bytes s ∙ (ended_reads command.RsaImport).again s.0 command.RsaImport (refl, s.2)
 
 pub command_reads : Reads read_command (Spelled CommandFits command_words)
 command_reads = record { takes = command_takes; again = λ bytes c s. command_again bytes c s.0 s.1; ends = λ bytes c s. says_end (command_words c) bytes s.1 }

@@ -4,8 +4,6 @@ use Rattle.std.specs.Prelude.{◌&&◌, IsTrue, is_none, nat_le, nat_lt, not}
 use Rattle.std.specs.List.{AllByRecursion}
 use Rattle.std.proofs.lemmas.Bool.{eqb-true, ltb-true}
 use Rattle.std.proofs.lemmas.Bool.Decides.{nat_tests}
-use Rattle.key_attributes.specs.UseBits.{allows, forbids_duplicates, uses_valid}
-use Rattle.key_attributes.specs.declared.Use.TheVariants as purpose
 use Rattle.pad_words.specs.Names.{is_key_name}
 use Rattle.pad_words.specs.declared.bytes.Block.{Block}
 use Rattle.key_source.specs.declared.Key.{Key}
@@ -24,7 +22,7 @@ use Rattle.pad_steps.specs.declared.commands.Start.TheVariants as started
 use Rattle.pad_steps.specs.declared.commands.Command.{Command}
 use Rattle.pad_steps.specs.declared.steps.Step.{Step}
 use Rattle.pad_steps.specs.Accounts.{all_decimal, is_pan}
-use Rattle.pad_steps.specs.Formed.{all_bytes, is_block, is_scripted, is_well_formed_command, is_built_block, is_built_crypt, is_built_entry, is_built_import, is_built_key, is_built_session, is_built_source, is_built_start, is_built_uses, is_format_0, is_key_length, is_unchecked, same_mask, entry_keys, ending_keys}
+use Rattle.pad_steps.specs.Formed.{all_bytes, is_block, is_scripted, is_well_formed_command, is_built_block, is_built_crypt, is_built_entry, is_built_import, is_built_key, is_built_session, is_built_source, is_built_start, is_built_value, is_format_0, same_mask, entry_keys, ending_keys}
 use Rattle.script_lang.specs.declared.kinds.Line.{Line}
 use Rattle.key_source.specs.declared.Key.TheVariants as keypad
 use Rattle.pad_steps.specs.declared.commands.Command.TheVariants as command
@@ -81,7 +79,7 @@ RequestFits r = NameFits r.key × OptionFits NameFits r.second × OptionFits Blo
 
 abbrev pub SourceFits : ImportSource → Type 0
 SourceFits (origin.Clear value) = BytesFit 1 64 value
-SourceFits (origin.Sealed name value) = ⊥
+SourceFits (origin.Sealed name value) = NameFits name × BytesFit 1 64 value
 SourceFits origin.Part = ⊥
 
 abbrev pub ImportFits : ImportRequest → Type 0
@@ -108,10 +106,10 @@ CommandFits (command.MaintainPin on) = ⊥
 CommandFits (command.Pin request) = PinFits request
 CommandFits (command.Crypt request) = CryptFits request
 CommandFits (command.ImportKey request) = ImportFits request
-CommandFits (command.DeleteKey name) = ⊥
+CommandFits (command.DeleteKey name) = NameFits name
 CommandFits command.Init = ⊥
 CommandFits command.Reset = ⊥
-CommandFits command.RsaImport = ⊥
+CommandFits command.RsaImport = Unit {0}
 
 abbrev pub StepFits : Step → Type 0
 StepFits (step.Open s) = Unit {0}
@@ -177,30 +175,24 @@ RequestFits-from_built r e =
     let low : r.pad ≤ 15 = grind (arith, nat_tests, pad.1) in
     (key.1, OptionFits-from_none NameFits r.second second.1, OptionFits-from_none BlockFits r.xor xor.1, NibblesFit-from_pan r.customer customer.1, omega (arith, low))
 
-key_length_range : (n : ℕ) → is_key_length n ≡ true → (1 ≤ n) × (n ≤ 64)
-key_length_range n e = (grind (arith, nat_tests), grind (arith, nat_tests))
+BytesFit-from_built : (value : List ℕ) → is_built_value value ≡ true → BytesFit 1 64 value
+BytesFit-from_built value e =
+    let bytes = both_true (nat_le 1 (length value) && nat_le (length value) 64) (all_bytes value) e in
+    let sizes = both_true (nat_le 1 (length value)) (nat_le (length value) 64) bytes.0 in
+    (grind (arith, nat_tests, sizes.0), grind (arith, nat_tests, sizes.1), bytes-from_all value bytes.1)
 
 SourceFits-from_built : (source : ImportSource) → is_built_source source ≡ true → SourceFits source
-SourceFits-from_built (origin.Clear value) e =
-    let both = both_true (is_key_length (length value)) (all_bytes value) e in
-    let range = key_length_range (length value) both.0 in
-    (range.0, range.1, bytes-from_all value both.1)
-SourceFits-from_built (origin.Sealed name value) e = absurd cc
+SourceFits-from_built (origin.Clear value) e = BytesFit-from_built value e
+SourceFits-from_built (origin.Sealed name value) e =
+    let both = both_true (is_key_name name) (is_built_value value) e in
+    (both.0, BytesFit-from_built value both.1)
 SourceFits-from_built origin.Part e = absurd cc
-
-UsesFit-from_built : (uses : ℕ) → is_built_uses uses ≡ true → UsesFit uses
-UsesFit-from_built uses e =
-    let duplicates = both_true ((uses_valid uses && nat_lt uses 64) && not (allows uses purpose.KeyEncKey)) (not (forbids_duplicates uses)) e in
-    let sealing = both_true (uses_valid uses && nat_lt uses 64) (not (allows uses purpose.KeyEncKey)) duplicates.0 in
-    let low = both_true (uses_valid uses) (nat_lt uses 64) sealing.0 in
-    omega (arith, ltb-true uses 64 low.1)
 
 ImportFits-from_built : (r : ImportRequest) → is_built_import r ≡ true → ImportFits r
 ImportFits-from_built r e =
-    let verify = both_true ((is_key_name r.name && is_built_source r.source) && is_built_uses r.uses) (is_unchecked r.verify) e in
-    let uses = both_true (is_key_name r.name && is_built_source r.source) (is_built_uses r.uses) verify.0 in
+    let uses = both_true (is_key_name r.name && is_built_source r.source) (nat_lt r.uses 65536) e in
     let source = both_true (is_key_name r.name) (is_built_source r.source) uses.0 in
-    (source.0, SourceFits-from_built r.source source.1, UsesFit-from_built r.uses uses.1)
+    (source.0, SourceFits-from_built r.source source.1, ltb-true r.uses 65536 uses.1)
 
 BlockFits-from_block : (block : Block) → is_block block ≡ true → BlockFits block
 BlockFits-from_block block e =
@@ -233,10 +225,10 @@ CommandFits-from_well_formed (command.Pin (pin.Check request)) e = absurd cc
 CommandFits-from_well_formed (command.Pin (pin.Extra request)) e = absurd cc
 CommandFits-from_well_formed (command.Crypt request) e = CryptFits-from_built request e
 CommandFits-from_well_formed (command.ImportKey request) e = ImportFits-from_built request e
-CommandFits-from_well_formed (command.DeleteKey name) e = absurd cc
+CommandFits-from_well_formed (command.DeleteKey name) e = e
 CommandFits-from_well_formed command.Init e = absurd cc
 CommandFits-from_well_formed command.Reset e = absurd cc
-CommandFits-from_well_formed command.RsaImport e = absurd cc
+CommandFits-from_well_formed command.RsaImport e = tt
 
 KeyFits-from_built : (k : Key) → is_built_key k ≡ true → KeyFits k
 KeyFits-from_built (keypad.Digit d) e = tt

@@ -3,7 +3,7 @@ use Rattle.std.proofs.Common.{◌≡◌, ℕ, List, [], ◌∷◌, ◌++◌, Som
 use Rattle.std.specs.Prelude.{codes}
 use Rattle.std.specs.List.{AllByRecursion}
 use Rattle.script_lang.specs.Words.{FirstWord, Says}
-use Rattle.script_lang.specs.Reading.{one_of, read_bytes, read_import, read_sourced, source_rows, with_field}
+use Rattle.script_lang.specs.Reading.{one_of, read_bytes, read_import, read_name, read_sourced, source_rows, with_field}
 use Rattle.script_lang.specs.Spelling.{bytes_word, import_words, name_word, source_words, sourced_words, uses_word, verify_word}
 use Rattle.pad_steps.specs.declared.commands.ImportRequest.{ImportRequest}
 use Rattle.pad_steps.specs.declared.commands.ImportSource.{ImportSource}
@@ -43,6 +43,10 @@ says_sourced r bytes small s = (r.uses, small, s.0, s.1, (r.verify, tt, s.2.0, s
 clear_reads : (name : List ℕ) → Reads (with_field (read_bytes 1 64) (λ value. read_sourced name (origin.Clear value))) (Then (BytesFit 1 64) bytes_word (λ value. Sourced name (origin.Clear value)))
 clear_reads name = with_field_reads _ _ _ _ _ (bytes_field 1 64) (λ value. sourced_reads name (origin.Clear value))
 
+sealed_reads : (name : List ℕ) → Reads (with_field read_name (λ key. with_field (read_bytes 1 64) (λ value. read_sourced name (origin.Sealed key value))))
+    (Then NameFits name_word (λ key. Then (BytesFit 1 64) bytes_word (λ value. Sourced name (origin.Sealed key value))))
+sealed_reads name = with_field_reads _ _ _ _ _ name_field (λ key. with_field_reads _ _ _ _ _ (bytes_field 1 64) (λ value. sourced_reads name (origin.Sealed key value)))
+
 -- the words behind a source that is known
 after_source : (verb bytes : List ℕ) (r : ImportRequest) (s : ImportSource) → r.source ≡ s → After verb bytes (source_words s ++ uses_word r.uses ∷ verify_word r.verify ∷ []) → After verb bytes (sourced_words r)
 after_source verb bytes r s is after = subst (λ s. After verb bytes (source_words s ++ uses_word r.uses ∷ verify_word r.verify ∷ [])) (sym is) after
@@ -53,7 +57,15 @@ source_rows_take name = (
       let s = (clear_reads name).takes bytes r e in
       let t = sourced_says name (origin.Clear s.0) r s.2 s.1 s.4 in
       (t.0, after_source (codes "clear") bytes r (origin.Clear s.0) t.1 (refl, (s.2, s.3, t.2))),
-  tt,
+  (
+    λ bytes r e.
+        let k = (sealed_reads name).takes bytes r e in
+        let s = k.4 in
+        let source : ImportSource = origin.Sealed k.0 s.0 in
+        let t = sourced_says name source r s.2 (k.1, s.1) s.4 in
+        (t.0, after_source (codes "sealed") bytes r source t.1 (refl, (k.2, k.3, (s.2, s.3, t.2)))),
+    tt,
+  ),
 )
 
 source_again : (r : ImportRequest) (s : ImportSource) (bytes : List ℕ) → SourceFits s → UsesFit r.uses → Says bytes (source_words s ++ uses_word r.uses ∷ verify_word r.verify ∷ [])
@@ -62,7 +74,11 @@ source_again r (origin.Clear value) bytes fits small h =
     let m : ImportRequest = record { name = r.name; source = origin.Clear value; uses = r.uses; verify = r.verify } in
     one_of_again (source_rows r.name) (codes "clear") (bytes_word value ∷ uses_word r.uses ∷ verify_word r.verify ∷ []) bytes h
     ∙ (clear_reads r.name).again h.0 m (value, fits, h.2.0, h.2.1, says_sourced m h.2.0 small h.2.2)
-source_again r (origin.Sealed name value) bytes fits small h = absurd fits
+source_again r (origin.Sealed key value) bytes fits small h =
+    let m : ImportRequest = record { name = r.name; source = origin.Sealed key value; uses = r.uses; verify = r.verify } in
+    let s = h.2.2 in
+    one_of_again (source_rows r.name) (codes "sealed") (name_word key ∷ bytes_word value ∷ uses_word r.uses ∷ verify_word r.verify ∷ []) bytes h
+    ∙ (sealed_reads r.name).again h.0 m (key, fits.0, h.2.0, h.2.1, (value, fits.1, s.0, s.1, says_sourced m s.0 small s.2))
 source_again r origin.Part bytes fits small h = absurd fits
 
 source_reads : (name : List ℕ) → Reads (one_of (source_rows name)) (Spelled (NamedFits name) sourced_words)

@@ -28,7 +28,7 @@ block_words_print r fits = (form_prints r.form, (name_prints r.key fits.0, (opti
 
 source_prints : (s : ImportSource) (more : List Word) → SourceFits s → AllByRecursion Prints more → AllByRecursion Prints (source_words s ++ more)
 source_prints (origin.Clear value) more fits all = ((refl, refl), (bytes_print value fits.2, all))
-source_prints (origin.Sealed name value) more fits all = absurd fits
+source_prints (origin.Sealed name value) more fits all = ((refl, refl), (name_prints name fits.0, (bytes_print value fits.1.2, all)))
 source_prints origin.Part more fits all = absurd fits
 
 import_prints : (r : ImportRequest) → ImportFits r → AllByRecursion Prints (import_words r)
@@ -47,10 +47,10 @@ command_prints (command.Pin (pin.Check r)) fits = absurd fits
 command_prints (command.Pin (pin.Extra r)) fits = absurd fits
 command_prints (command.Crypt r) fits = ((refl, refl), crypt_words_print r fits)
 command_prints (command.ImportKey r) fits = ((refl, refl), import_prints r fits)
-command_prints (command.DeleteKey name) fits = absurd fits
+command_prints (command.DeleteKey name) fits = ((refl, refl), (name_prints name fits, tt))
 command_prints command.Init fits = absurd fits
 command_prints command.Reset fits = absurd fits
-command_prints command.RsaImport fits = absurd fits
+command_prints command.RsaImport fits = ((refl, refl), tt)
 
 -- ---- steps
 

@@ -250,7 +250,8 @@ read_sourced name source = with_field read_uses (λ uses. with_field read_verify
 -- an import of this name by the first word of its source
 abbrev pub source_rows : List ℕ → List (List ℕ × (List ℕ → Option ImportRequest))
 source_rows name =
-    (codes "clear", with_field (read_bytes 1 64) (λ value. read_sourced name (origin.Clear value))) ∷ []
+    (codes "clear", with_field (read_bytes 1 64) (λ value. read_sourced name (origin.Clear value))) ∷
+    (codes "sealed", with_field read_name (λ key. with_field (read_bytes 1 64) (λ value. read_sourced name (origin.Sealed key value)))) ∷ []
 
 unfoldable pub read_import : List ℕ → Option ImportRequest
 read_import = with_field read_name (λ name. one_of (source_rows name))
@@ -261,7 +262,9 @@ command_rows =
     (codes "getpin", λ bytes. option_map (λ (rules : EntryRules). command.GetPin rules) (read_rules bytes)) ∷
     (codes "pinblock", λ bytes. option_map (λ (request : BlockRequest). command.Pin (pin.Block request)) (read_pinblock bytes)) ∷
     (codes "import", λ bytes. option_map (λ (request : ImportRequest). command.ImportKey request) (read_import bytes)) ∷
-    (codes "crypt", λ bytes. option_map (λ (request : CryptRequest). command.Crypt request) (read_crypt bytes)) ∷ []
+    (codes "crypt", λ bytes. option_map (λ (request : CryptRequest). command.Crypt request) (read_crypt bytes)) ∷
+    (codes "delete", with_field read_name (λ name. ended (command.DeleteKey name))) ∷
+    (codes "rsa", ended command.RsaImport) ∷ []
 
 unfoldable pub read_command : List ℕ → Option Command
 read_command = one_of command_rows

@@ -115,6 +115,12 @@ fn read_import(alloc: Global, rest: &[u8]) -> Result<ImportRequest, LineFault>
         let (word, rest) = present(next_word(rest))?;
         let value = read_bytes(alloc, 1, MOST_KEY_BYTES, word)?;
         present(read_sourced(name, ImportSource::Clear(value), rest))
+    } else if is(word, "sealed") {
+        let (word, rest) = present(next_word(rest))?;
+        let key = present(read_name(word))?;
+        let (word, rest) = present(next_word(rest))?;
+        let value = read_bytes(alloc, 1, MOST_KEY_BYTES, word)?;
+        present(read_sourced(name, ImportSource::Sealed(key, value), rest))
     } else {
         Err(LineFault::Outside)
     }
@@ -166,6 +172,14 @@ pub fn read_command(alloc: Global, rest: &[u8]) -> Result<Command, LineFault>
     } else if is(verb, "crypt") {
         let request = read_crypt(alloc, rest)?;
         Ok(Command::Crypt(request))
+    } else if is(verb, "delete") {
+        let (word, rest) = present(next_word(rest))?;
+        let name = present(read_name(word))?;
+        present(ended(rest))?;
+        Ok(Command::DeleteKey(name))
+    } else if is(verb, "rsa") {
+        present(ended(rest))?;
+        Ok(Command::RsaImport)
     } else {
         Err(LineFault::Outside)
     }

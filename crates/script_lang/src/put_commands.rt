@@ -103,6 +103,11 @@ pub fn put_command(alloc: Global, command: &Command, text: &mut Octets) -> Resul
             write_word(" crypt", text)?;
             put_crypt(request, text)
         }
+        Command::DeleteKey(name) => {
+            write_word(" delete", text)?;
+            put_name(name, text)
+        }
+        Command::RsaImport => write_word(" rsa", text),
         // no line spells another command yet
         _ => unreachable!(),
     }

@@ -12,6 +12,12 @@ const GETPIN: &str = "submit 1 0 getpin 4 16 hold 000F03FF00000000 0003000000000
 
 const IMPORT: &str = "submit 1 0 import PIN_KEY_1 clear 0123456789ABCDEF 0002 none";
 
+const SEALED: &str = "submit 1 0 import NEW_KEY sealed SEAL_KEY 00FFA5 8421 zero";
+
+const DELETE: &str = "submit 1 0 delete OLD_KEY";
+
+const RSA: &str = "submit 1 0 rsa";
+
 const PINBLOCK: &str = "submit 1 0 pinblock iso0 PIN_KEY_1 - - 123456789012 F";
 
 const CRYPT: &str = "submit 1 0 crypt cbc decrypt DATA_KEY START_KEY:FEDCBA9876543210 A5 0123FF";
@@ -31,7 +37,10 @@ fn lines_are_read_and_printed_again(rt: HostRuntime) -> Result<(), Fail> {
     spelled_again();
     let lines = [
         "open 1",
+        "listen 1 none",
+        "listen 1 service",
         "listen 1 execute",
+        "listen 1 both",
         GETPIN,
         IMPORT,
         "submit 1 0 import A clear FEDCBA9876543210 0002 none",
@@ -44,6 +53,32 @@ fn lines_are_read_and_printed_again(rt: HostRuntime) -> Result<(), Fail> {
         "submit 1 0 import P clear 0123456789ABCDEF 0007 none",
         "submit 1 0 import P clear 0123456789ABCDEF 0020 none",
         "submit 1 0 import P clear 0123456789ABCDEF 0027 none",
+        "submit 1 0 import P clear 01 0002 none",
+        "submit 1 0 import P clear 0123456789ABCD 0002 none",
+        "submit 1 0 import P clear 0123456789ABCDEF01 0002 none",
+        "submit 1 0 import P clear 0123456789ABCDEF01234567 0002 none",
+        "submit 1 0 import P clear 0123456789ABCDEF0123456789ABCDEF0123456789ABCDEF01 0002 none",
+        "submit 1 0 import P clear 0123456789ABCDEF0123456789ABCDEF0123456789ABCDEF0123456789ABCDEF 0002 none",
+        "submit 1 0 import P clear 0123456789ABCDEF 0000 none",
+        "submit 1 0 import P clear 0123456789ABCDEF 0008 none",
+        "submit 1 0 import P clear 0123456789ABCDEF 000A none",
+        "submit 1 0 import P clear 0123456789ABCDEF 0010 none",
+        "submit 1 0 import P clear 0123456789ABCDEF 0012 none",
+        "submit 1 0 import P clear 0123456789ABCDEF 0040 none",
+        "submit 1 0 import P clear 0123456789ABCDEF 0042 none",
+        "submit 1 0 import P clear 0123456789ABCDEF 0100 none",
+        "submit 1 0 import P clear 0123456789ABCDEF 0102 none",
+        "submit 1 0 import P clear 0123456789ABCDEF FFFF none",
+        "submit 1 0 import P clear 0123456789ABCDEF 0002 self",
+        "submit 1 0 import P clear 0123456789ABCDEF 0002 zero",
+        SEALED,
+        "submit 1 0 import P sealed K 0123456789ABCDEF 0002 none",
+        "submit 1 0 import P sealed P 0123456789ABCDEFFEDCBA9876543210 8000 self",
+        "submit 1 0 import P sealed ABCDEFGHIJKLMNOPQRSTUVWXYZ_01234 0F 0000 zero",
+        DELETE,
+        "submit 1 0 delete A",
+        "submit 1 0 delete ABCDEFGHIJKLMNOPQRSTUVWXYZ_01234",
+        RSA,
         PINBLOCK,
         "submit 1 0 pinblock iso0 ABCDEFGHIJKLMNOPQRSTUVWXYZ_56789 - - 1234567890123456789 0",
         CRYPT,
@@ -106,6 +141,30 @@ fn clear_value(source: &ImportSource) -> Option<&Octets> {
     }
 }
 
+// the name and the value of a sealed source
+fn sealed_value(source: &ImportSource) -> Option<(&KeyName, &Octets)> {
+    match source {
+        ImportSource::Sealed(name, value) => Some((name, value)),
+        _ => None,
+    }
+}
+
+// the name of a key to be deleted
+fn deleted_of(command: &Command) -> Option<&KeyName> {
+    match command {
+        Command::DeleteKey(name) => Some(name),
+        _ => None,
+    }
+}
+
+// the classes that a session is to hear
+fn classes_of(line: &Line) -> Option<&Classes> {
+    match line {
+        Line::Do(Step::Listen(_, classes)) => Some(classes),
+        _ => None,
+    }
+}
+
 // the request of a PIN block
 fn block_of(command: &Command) -> Option<&BlockRequest> {
     match command {
@@ -149,34 +208,42 @@ fn crypts_have_their_fields(rt: HostRuntime) -> Result<(), Fail> {
     Ok(())
 }
 
-// a crypt command with so many digits behind its padding byte
-fn crypt_line(alloc: Global, digits: u32) -> Result<Octets, Fail> {
-    let mut line = Octets::copy(alloc, "submit 1 0 crypt cbc encrypt K - 00 ".as_bytes())?;
+// so many digits between two texts
+fn digits_between(alloc: Global, front: &str, digits: u32, end: &str) -> Result<Octets, Fail> {
+    let mut line = Octets::copy(alloc, front.as_bytes())?;
     for _ in 0..digits {
         line.push(b'7')?;
     }
+    writing::write_word(end, &mut line)?;
     Ok(line)
 }
 
-// 1,024 bytes are the most
+// 1,024 bytes are the most of a crypt command, and 64 of a key's value
 #[test]
-fn bodies_are_bounded(rt: HostRuntime) -> Result<(), Fail> {
+fn bytes_are_bounded(rt: HostRuntime) -> Result<(), Fail> {
     let alloc = rt.alloc();
-    for digits in [2, 256, 2046, 2048] {
-        let line = crypt_line(alloc, digits)?;
-        let mut text = Octets::empty(alloc);
-        match read_line(alloc, line.items()) {
-            Ok(Line::Do(step)) => write_step(alloc, &step, false, &mut text)?,
-            _ => assert!(rt; false, "{digits} digits are no step"),
+    let rows = [
+        ("submit 1 0 crypt cbc encrypt K - 00 ", "", 2048),
+        ("submit 1 0 import K clear ", " 0002 none", 128),
+        ("submit 1 0 import K sealed K2 ", " FFFF self", 128),
+    ];
+    for (front, end, most) in rows {
+        for digits in [2, 16, 64, most - 2, most] {
+            let line = digits_between(alloc, front, digits, end)?;
+            let mut text = Octets::empty(alloc);
+            match read_line(alloc, line.items()) {
+                Ok(Line::Do(step)) => write_step(alloc, &step, false, &mut text)?,
+                _ => assert!(rt; false, "{digits} digits are no step"),
+            }
+            assert!(rt;
+                text.items() == line.items(),
+                "{digits} digits are printed otherwise"
+            );
         }
-        assert!(rt;
-            text.items() == line.items(),
-            "{digits} digits are printed otherwise"
-        );
-    }
-    for digits in [0, 1, 2047, 2049, 2050, 4096, 1_000_000] {
-        let line = crypt_line(alloc, digits)?;
-        assert!(rt; is_outside(alloc, line.items()), "{digits} digits are read");
+        for digits in [0, 1, 15, most - 1, most + 1, most + 2, 2 * most, 1_000_000] {
+            let line = digits_between(alloc, front, digits, end)?;
+            assert!(rt; is_outside(alloc, line.items()), "{digits} digits are read");
+        }
     }
     Ok(())
 }
@@ -204,6 +271,75 @@ fn commands_have_their_fields(rt: HostRuntime) -> Result<(), Fail> {
     assert!(rt; block.xor.is_none());
     assert!(rt; block.customer.items() == digits.as_slice());
     assert!(rt; block.pad == 15);
+    Ok(())
+}
+
+// each word of classes says which a session hears
+#[test]
+fn listens_have_their_classes(rt: HostRuntime) -> Result<(), Fail> {
+    let alloc = rt.alloc();
+    let rows = [
+        ("listen 1 none", false, false),
+        ("listen 1 service", true, false),
+        ("listen 1 execute", false, true),
+        ("listen 1 both", true, true),
+    ];
+    for (text, service, execute) in rows {
+        let line = read_line(alloc, text.as_bytes()).ok().ok_or("listen")?;
+        let classes = classes_of(&line).ok_or("classes")?;
+        assert!(rt; classes.service == service, "{text} is read otherwise");
+        assert!(rt; classes.execute == execute, "{text} is read otherwise");
+    }
+    Ok(())
+}
+
+// each check mode and each word of uses is read as it stands
+#[test]
+fn imports_have_their_uses_and_check(rt: HostRuntime) -> Result<(), Fail> {
+    let alloc = rt.alloc();
+    let rows = [
+        ("submit 1 0 import K clear 5A 0000 none", 0, Verify::Nothing),
+        (
+            "submit 1 0 import K clear 5A 8421 self",
+            0x8421,
+            Verify::Own,
+        ),
+        (
+            "submit 1 0 import K clear 5A FFFF zero",
+            0xFFFF,
+            Verify::Zero,
+        ),
+    ];
+    for (text, uses, verify) in rows {
+        let line = read_line(alloc, text.as_bytes()).ok().ok_or("import")?;
+        let command = command_of(&line).ok_or("import")?;
+        let import = import_of(command).ok_or("import")?;
+        assert!(rt; import.uses == uses, "{text} is read otherwise");
+        assert!(rt; import.verify == verify, "{text} is read otherwise");
+    }
+    Ok(())
+}
+
+// a sealed import, a deletion and a service event are the commands that they spell
+#[test]
+fn key_commands_have_their_fields(rt: HostRuntime) -> Result<(), Fail> {
+    let alloc = rt.alloc();
+    let line = read_line(alloc, SEALED.as_bytes()).ok().ok_or("sealed")?;
+    let command = command_of(&line).ok_or("sealed")?;
+    let import = import_of(command).ok_or("sealed")?;
+    let (key, value) = sealed_value(&import.source).ok_or("value")?;
+    assert!(rt; import.name.text() == "NEW_KEY".as_bytes());
+    assert!(rt; key.text() == "SEAL_KEY".as_bytes());
+    assert!(rt; value.items() == [0x00, 0xFF, 0xA5].as_slice());
+    assert!(rt; import.uses == 0x8421);
+    assert!(rt; import.verify == Verify::Zero);
+    let line = read_line(alloc, DELETE.as_bytes()).ok().ok_or("delete")?;
+    let command = command_of(&line).ok_or("delete")?;
+    let name = deleted_of(command).ok_or("delete")?;
+    assert!(rt; name.text() == "OLD_KEY".as_bytes());
+    let line = read_line(alloc, RSA.as_bytes()).ok().ok_or("rsa")?;
+    let command = command_of(&line).ok_or("rsa")?;
+    assert!(rt; matches!(command, Command::RsaImport));
     Ok(())
 }
 
@@ -237,10 +373,14 @@ fn other_lines_are_outside(rt: HostRuntime) -> Result<(), Fail> {
         "open 1 1",
         "OPEN 1",
         "opens 1",
-        "listen 1 both",
-        "listen 1 none",
-        "listen 1 service",
+        "listen 1 all",
         "listen 1 Execute",
+        "listen 1 BOTH",
+        "listen 1 none ",
+        "listen 1 service execute",
+        "listen 1 both both",
+        "listen 1 ",
+        "listen 2 both",
         "listen 2 execute",
         "listen execute 1",
         "listen 1",
@@ -260,7 +400,25 @@ fn other_lines_are_outside(rt: HostRuntime) -> Result<(), Fail> {
         "submit 1 0 getpin 4 16 hold 000F03FF00000000 0003000000000000 ",
         "submit 1 0 getdata 4 16 hold 000F03FF00000000 0003000000000000",
         "submit 1 0 init",
+        "submit 1 0 reset",
         "submit 1 0",
+        "submit 1 0 delete",
+        "submit 1 0 delete ",
+        "submit 1 0 delete k",
+        "submit 1 0 delete -",
+        "submit 1 0 delete K ",
+        "submit 1 0 delete K K",
+        "submit 1 0 delete  K",
+        "submit 1 0 delete ABCDEFGHIJKLMNOPQRSTUVWXYZ_012345",
+        "submit 1 0 Delete K",
+        "submit 1 1 delete K",
+        "submit 2 0 delete K",
+        "submit 1 0 rsa ",
+        "submit 1 0 rsa x",
+        "submit 1 0 rsa K",
+        "submit 1 0 RSA",
+        "submit 1 1 rsa",
+        "submit 2 0 rsa",
         "press",
         "press a",
         "press A",
@@ -307,35 +465,51 @@ fn other_imports_are_outside(rt: HostRuntime) -> Result<(), Fail> {
         "submit 1 0 import p clear 0123456789ABCDEF 0002 none",
         "submit 1 0 import P-1 clear 0123456789ABCDEF 0002 none",
         "submit 1 0 import P Clear 0123456789ABCDEF 0002 none",
-        "submit 1 0 import P sealed K 0123456789ABCDEF 0002 none",
+        "submit 1 0 import P 0123456789ABCDEF 0002 none",
         "submit 1 0 import P part 0002 none",
+        "submit 1 0 import P part 0123456789ABCDEF 0002 none",
         "submit 1 0 import P clear - 0002 none",
-        "submit 1 0 import P clear 01 0002 none",
+        "submit 1 0 import P clear  0002 none",
+        "submit 1 0 import P clear 0002 none",
         "submit 1 0 import P clear 0123456789ABCDE 0002 none",
         "submit 1 0 import P clear 0123456789ABCDEF0 0002 none",
-        "submit 1 0 import P clear 0123456789ABCDEF01 0002 none",
-        "submit 1 0 import P clear 0123456789ABCD 0002 none",
-        "submit 1 0 import P clear 0123456789ABCDEF01234567 0002 none",
         "submit 1 0 import P clear 0123456789ABCDEF0123456789ABCDEF0 0002 none",
-        "submit 1 0 import P clear 0123456789ABCDEF0123456789ABCDEF0123456789ABCDEF01 0002 none",
-        "submit 1 0 import P clear 0123456789ABCDEF0123456789ABCDEF0123456789ABCDEF0123456789ABCDEF 0002 none",
         "submit 1 0 import P clear 0123456789abcdef 0002 none",
         "submit 1 0 import P clear 0123456789ABCDEG 0002 none",
-        "submit 1 0 import P clear 0123456789ABCDEF 0000 none",
-        "submit 1 0 import P clear 0123456789ABCDEF 0008 none",
-        "submit 1 0 import P clear 0123456789ABCDEF 000A none",
-        "submit 1 0 import P clear 0123456789ABCDEF 0010 none",
-        "submit 1 0 import P clear 0123456789ABCDEF 0012 none",
-        "submit 1 0 import P clear 0123456789ABCDEF 0040 none",
-        "submit 1 0 import P clear 0123456789ABCDEF 0042 none",
-        "submit 1 0 import P clear 0123456789ABCDEF 0100 none",
-        "submit 1 0 import P clear 0123456789ABCDEF 0102 none",
+        "submit 1 0 import P clear K 0123456789ABCDEF 0002 none",
         "submit 1 0 import P clear 0123456789ABCDEF 002 none",
         "submit 1 0 import P clear 0123456789ABCDEF 00002 none",
         "submit 1 0 import P clear 0123456789ABCDEF 2 none",
-        "submit 1 0 import P clear 0123456789ABCDEF 0002 self",
-        "submit 1 0 import P clear 0123456789ABCDEF 0002 zero",
+        "submit 1 0 import P clear 0123456789ABCDEF 000a none",
+        "submit 1 0 import P clear 0123456789ABCDEF 000G none",
+        "submit 1 0 import P clear 0123456789ABCDEF - none",
+        "submit 1 0 import P clear 0123456789ABCDEF none",
+        "submit 1 0 import P clear 0123456789ABCDEF none 0002",
         "submit 1 0 import P clear 0123456789ABCDEF 0002 None",
+        "submit 1 0 import P clear 0123456789ABCDEF 0002 own",
+        "submit 1 0 import P clear 0123456789ABCDEF 0002 -",
+        "submit 1 0 import P sealed",
+        "submit 1 0 import P sealed K",
+        "submit 1 0 import P sealed K 0123456789ABCDEF",
+        "submit 1 0 import P sealed K 0123456789ABCDEF 0002",
+        "submit 1 0 import P sealed K 0123456789ABCDEF 0002 ",
+        "submit 1 0 import P sealed K 0002 none",
+        "submit 1 0 import P sealed 0123456789ABCDEF 0002 none",
+        "submit 1 0 import P sealed k 0123456789ABCDEF 0002 none",
+        "submit 1 0 import P sealed - 0123456789ABCDEF 0002 none",
+        "submit 1 0 import P sealed  0123456789ABCDEF 0002 none",
+        "submit 1 0 import P sealed ABCDEFGHIJKLMNOPQRSTUVWXYZ_012345 0123456789ABCDEF 0002 none",
+        "submit 1 0 import P sealed K - 0002 none",
+        "submit 1 0 import P sealed K  0002 none",
+        "submit 1 0 import P sealed K 0123456789ABCDE 0002 none",
+        "submit 1 0 import P sealed K 0123456789abcdef 0002 none",
+        "submit 1 0 import P sealed K 0123456789ABCDEF 002 none",
+        "submit 1 0 import P sealed K 0123456789ABCDEF 00002 none",
+        "submit 1 0 import P sealed K 0123456789ABCDEF 0002 None",
+        "submit 1 0 import P sealed K 0123456789ABCDEF 0002 none none",
+        "submit 1 0 import P Sealed K 0123456789ABCDEF 0002 none",
+        "submit 1 1 import P sealed K 0123456789ABCDEF 0002 none",
+        "submit 2 0 import P sealed K 0123456789ABCDEF 0002 none",
         "submit 1 0 import P clear 0123456789ABCDEF 0002 none none",
         "submit 1 0 import P clear 0123456789ABCDEF 0002  none",
         "submit 1 0 import P clear  0123456789ABCDEF 0002 none",
