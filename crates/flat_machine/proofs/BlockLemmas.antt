@@ -8,7 +8,7 @@ use Rattle.flat_machine.proofs.TwinRuns.{twins_end_alike}
 use Rattle.flat_machine.specs.Decisions.{Decided, Goes, Stops, and_then, unless}
 use Rattle.flat_machine.specs.Facts.{IsStart}
 use Rattle.flat_machine.specs.FinishSteps.{pin_now, release_by, release_pin, release_with}
-use Rattle.flat_machine.specs.KeyRows.{permit, permit_maybe}
+use Rattle.flat_machine.specs.Permits.{permit_maybe, permit}
 use Rattle.flat_machine.specs.Machine.{Act, release, run_from}
 use Rattle.flat_machine.specs.PinFacts.{Format0InWork, passes_submit}
 use Rattle.flat_machine.specs.Requests.{working}

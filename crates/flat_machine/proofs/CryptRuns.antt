@@ -1,8 +1,8 @@
 -- CRYPT, computed by the definitions alone. The cipher here leaves blocks other than the zero block as they are, so the chaining shows.
-use Rattle.des_core.specs.Bits.{exclusive_or}
+use Rattle.pad_words.specs.Bytes.{exclusive_or, zero_block}
 use Rattle.flat_machine.proofs.RunCommands.{import_clear, refused}
 use Rattle.flat_machine.proofs.RunWords.{beginning, counting_key, done_on_disk, done_quietly, quiet, reply_in, said_after, session_1}
-use Rattle.cbc_mac.specs.Modes.{blocks, cbc, cbc_back, last_or, padded, zero_block}
+use Rattle.cbc_mac.specs.Modes.{blocks, cbc, cbc_back, last_or, padded}
 use Rattle.flat_machine.specs.Machine.{Act}
 use Rattle.pad_steps.specs.declared.answers.Reply.{Reply}
 use Rattle.pad_steps.specs.declared.commands.Algorithm.{Algorithm}

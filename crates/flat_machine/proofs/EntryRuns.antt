@@ -1,8 +1,7 @@
 -- Entries, computed by the definitions alone.
-use Rattle.des_core.specs.Bits.{exclusive_or}
+use Rattle.pad_words.specs.Bytes.{exclusive_or, zero_block}
 use Rattle.flat_machine.proofs.RunCommands.{begun_entry, block_of, checked, digit, digit_key, ending_keys, entry_keys, four_entered, get_pin, import_clear, iso0_block, masked_keys, pin_key, plain_key, press_cancel, press_enter, refused, with_pin_key, zero_check}
 use Rattle.flat_machine.proofs.RunWords.{all_fit, beginning, done_on_disk, done_quietly, listening_to, quiet, replies_by, said_after, said_by, session_1}
-use Rattle.cbc_mac.specs.Modes.{zero_block}
 use Rattle.flat_machine.specs.Machine.{Act}
 use Rattle.flat_machine.specs.State.{opening}
 use Rattle.key_source.specs.declared.Mask.{Mask}

@@ -3,7 +3,7 @@ use Rattle.flat_machine.specs.Decisions.{Decided, Goes, Stops}
 use Rattle.flat_machine.specs.Entries.{Entry, entry_of, entry_refusal}
 use Rattle.flat_machine.specs.EntrySteps.{begin_as, begin_entry, begin_with, first_of, next_begin}
 use Rattle.flat_machine.specs.FinishSteps.{crypt_now, delete_now, deletes, finish_by, finish_pin, finish_with, import_now, imports, init_now, inits, maintain_now, maintains, pin_now, reset_with}
-use Rattle.flat_machine.specs.KeyRows.{Change, change_to, changed}
+use Rattle.key_table.specs.Changes.{changed, change_to, Change}
 use Rattle.flat_machine.specs.Power.{loads, powers_off, replaces}
 use Rattle.flat_machine.specs.RequestSteps.{cancels, is_canceled, is_due, next_tick, submit_by}
 use Rattle.flat_machine.specs.Requests.{eligible, ended_where, same_session, working}

@@ -1,5 +1,6 @@
 -- Two runs that are twins until a block is due. The first has all that the law of released blocks asks; the second holds another PIN, and releases another block. The cipher is DES itself, and the blocks were computed by another program.
-use Rattle.des_core.specs.Bits.{bits_of, bits_of_bytes, bytes_of_bits, exclusive_or, number_from, number_of}
+use Rattle.des_core.specs.Bits.{bits_of, bits_of_bytes, bytes_of_bits, number_from, number_of}
+use Rattle.pad_words.specs.Bytes.{exclusive_or}
 use Rattle.des_core.specs.Des.{after_rounds, bits_by_table, cipher_function, column_of, des, des_back, left_rotation, output_block, preoutput, round_keys, round_keys_from, row_of, selection, selections}
 use Rattle.des_core.specs.TripleDes.{tdea_bytes}
 use Rattle.flat_machine.proofs.RunCommands.{begun_entry, entered_0000, entered_1234, iso0_block, pin_key, with_pin_key}

@@ -1,5 +1,5 @@
 -- Two runs that are twins, and two that are none.
-use Rattle.des_core.specs.Bits.{exclusive_or}
+use Rattle.pad_words.specs.Bytes.{exclusive_or}
 use Rattle.flat_machine.proofs.RunCommands.{begun_entry, digit, entered_0000, entered_1234, get_pin, iso0_block, local_check, press_enter, with_pin_key}
 use Rattle.flat_machine.proofs.RunWords.{done_quietly, setting}
 use Rattle.flat_machine.proofs.TwinRuns.{twins_print_alike}

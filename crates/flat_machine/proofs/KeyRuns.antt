@@ -1,8 +1,8 @@
 -- Keys, computed by the definitions alone.
-use Rattle.des_core.specs.Bits.{exclusive_or}
+use Rattle.pad_words.specs.Bytes.{exclusive_or, zero_block}
 use Rattle.flat_machine.proofs.RunCommands.{begun_entry, checked, counting_check, digit, done, import_clear, mac_under, pin_block, pin_key, refused, unchecked, zero_check}
 use Rattle.flat_machine.proofs.RunWords.{beginning, counting_key, done_on_disk, done_quietly, listening_to, quiet, replies_by, said_after, session_1, zero_encrypted}
-use Rattle.cbc_mac.specs.Modes.{blocks, cbc, last_or, padded, zero_block}
+use Rattle.cbc_mac.specs.Modes.{blocks, cbc, last_or, padded}
 use Rattle.flat_machine.specs.Machine.{Act}
 use Rattle.pad_steps.specs.declared.commands.Command.{Command}
 use Rattle.pad_steps.specs.declared.commands.Verify.{Verify}

@@ -1,17 +1,18 @@
 -- Each step keeps the key rows a table, if what it loads is one.
 use Rattle.flat_machine.proofs.BoolLemmas.{both}
-use Rattle.flat_machine.proofs.KeyTables.{Keeps_table, deletion_keeps, goes_on_device, import_puts, init_keeps, one_change}
+use Rattle.flat_machine.proofs.KeyTables.{ChangesKeepATable, Keeps_table, Table, deletion_keeps, goes_on_device, import_puts, init_keeps, one_change}
 use Rattle.flat_machine.proofs.RunCommands.{done}
 use Rattle.flat_machine.proofs.RunWords.{cipher}
-use Rattle.flat_machine.proofs.TableLemmas.{Table, table-with_row, table_from, table_to}
 use Rattle.flat_machine.specs.Ciphers.{Ciphers}
 use Rattle.flat_machine.specs.Decisions.{Decided, Goes, Stops}
 use Rattle.flat_machine.specs.Entries.{Entry, active_seen, entered, entry_of, entry_refusal}
 use Rattle.flat_machine.specs.EntrySteps.{begin_as, begin_entry, begin_with, first_of, press_in, press_seen}
 use Rattle.flat_machine.specs.Facts.{IsStart}
 use Rattle.flat_machine.specs.FinishSteps.{crypt_now, delete_now, deletes, deletion, finish_by, finish_pin, finish_with, import_now, imports, init_now, inits, maintain_now, maintains, pin_now, resets}
-use Rattle.flat_machine.specs.KeyFacts.{is_table, loads_table}
-use Rattle.flat_machine.specs.KeyRows.{Change, change_to, changed, find_key}
+use Rattle.flat_machine.specs.KeyFacts.{loads_table}
+use Rattle.key_table.specs.Tables.{is_table}
+use Rattle.key_table.specs.Changes.{changed, change_to, Change}
+use Rattle.key_table.specs.KeyRows.{find_key}
 use Rattle.flat_machine.specs.Machine.{Act, next, run_from}
 use Rattle.flat_machine.specs.Power.{loads, replaces}
 use Rattle.flat_machine.specs.RequestSteps.{is_canceled, submit_by, submit_refusal}
@@ -47,7 +48,7 @@ table_after : (b : Bool) (x y : After) → Table x.state.public.keys → Table y
 table_after true x y one other = one
 table_after false x y one other = other
 
-module _ (p : Public) (h : Table p.keys) where
+module _ (law : ChangesKeepATable) (p : Public) (h : Table p.keys) where
   table_if : (b : Bool) (x y : Said) → Table x.public.keys → Table y.public.keys → Table (cond b x y).public.keys
   table_if true x y one other = one
   table_if false x y one other = other
@@ -77,7 +78,7 @@ module _ (p : Public) (h : Table p.keys) where
   table_loads word.Done e = h
   table_loads (word.Failed n) e = h
   table_loads (word.Cut n) e = h
-  table_loads (word.Loaded rows) e = table_from rows e
+  table_loads (word.Loaded rows) e = e
   table_loads (word.Bad slot) e = h
 
   table_reset : (a : Asked Command) (w : DiskWord) → loads_table w ≡ true → Table (resets p a w).public.keys
@@ -85,7 +86,7 @@ module _ (p : Public) (h : Table p.keys) where
   table_reset a word.Done e = h
   table_reset a (word.Failed n) e = h
   table_reset a (word.Cut n) e = h
-  table_reset a (word.Loaded rows) e = table_from rows e
+  table_reset a (word.Loaded rows) e = e
   table_reset a (word.Bad slot) e = h
 
   table_replaces : (a : Asked Command) (todo : List Change) (done : Public → Said) (w : DiskWord) → Keeps_table p.keys todo → ((q : Public) → (done q).public.keys ≡ q.keys) → Table (replaces p a todo done w).public.keys
@@ -106,8 +107,7 @@ module _ (p : Public) (h : Table p.keys) where
 
   import_keeps : (cipher : Ciphers) (r : ImportRequest) (new : ℕ × KeyRow) → import_now cipher p r ≡ Goes new → Keeps_table p.keys (change_to new ∷ [])
   import_keeps cipher r new e =
-      let puts = import_puts cipher p r new h e in
-      one_change p.keys (change_to new) h (table-with_row new.0 new.1 p.keys puts.below puts.only h)
+      one_change p.keys (change_to new) h (import_puts law cipher p r new h e)
 
   table_finish_by : (set : Setting) (held : List ℕ) (a : Asked Command) (c : Command) (w : DiskWord) → loads_table w ≡ true → Table (finish_by set p held a c w).public.keys
   table_finish_by set held a (command.GetPin rules) w e = h
@@ -117,8 +117,8 @@ module _ (p : Public) (h : Table p.keys) where
   table_finish_by set held a (command.Pin r) w e = table_pin set held a r (pin_now set.works p (length held) r)
   table_finish_by set held a (command.Crypt r) w e = table_decided a (crypt_now set.cipher p r) _ (λ x goes. h)
   table_finish_by set held a (command.ImportKey r) w e = table_decided a (import_now set.cipher p r) _ (λ new goes. table_replaces a (change_to new ∷ []) (imports set.cipher a r new.1) w (import_keeps set.cipher r new goes) (λ q. refl))
-  table_finish_by set held a (command.DeleteKey name) w e = table_decided a (delete_now p name) _ (λ c goes. table_replaces a (c ∷ []) (deletes a) w (deletion_keeps (find_key name p.keys) p.keys c h (goes_on_device (device_refusal p.device) (deletion (find_key name p.keys)) c goes)) (λ q. refl))
-  table_finish_by set held a command.Init w e = table_decided a (init_now p) _ (λ todo goes. table_replaces a todo (inits a) w (init_keeps (device_refusal p.device) p.keys todo h goes) (λ q. refl))
+  table_finish_by set held a (command.DeleteKey name) w e = table_decided a (delete_now p name) _ (λ c goes. table_replaces a (c ∷ []) (deletes a) w (deletion_keeps law (find_key name p.keys) p.keys c h (goes_on_device (device_refusal p.device) (deletion (find_key name p.keys)) c goes)) (λ q. refl))
+  table_finish_by set held a command.Init w e = table_decided a (init_now p) _ (λ todo goes. table_replaces a todo (inits a) w (init_keeps law (device_refusal p.device) p.keys todo h goes) (λ q. refl))
   table_finish_by set held a command.Reset w e = table_reset a w e
   table_finish_by set held a command.RsaImport w e = h
 
@@ -135,31 +135,31 @@ table_press : (set : Setting) (h : Flat) (o : Option Running) (k : Key) → Tabl
 table_press set h None k t = t
 table_press set h (Some w) k t = table_after (has_key w.entry.active k) _ (record { state = h; outs = [] }) (table_seen set h w k (active_seen w.entry (length (entered w.entry h.presses)) k) t) t
 
-next_table : (set : Setting) (h : Flat) (s : Step) (w : DiskWord) → loads_table w ≡ true → Table h.public.keys → Table (next set h s w).state.public.keys
-next_table set h (step.Open s) w e t = table_if h.public t (is_open s h.public.sessions) _ _ t t
-next_table set h (step.Close s) w e t = table_own h.public t s _ t
-next_table set h (step.Listen s c) w e t = table_own h.public t s _ t
-next_table set h (step.Lock s) w e t = table_own h.public t s _ t
-next_table set h (step.Unlock s) w e t = table_own h.public t s _ (table_if h.public t (holds s h.public.line) _ _ t t)
-next_table set h (step.Submit s limit c) w e t = table_submit h.public t (submit_refusal set.works h.public s c) s limit c
-next_table set h (step.Cancel s id) w e t = table_own h.public t s _ (table_if h.public t (not (id == 0) && (length (pending_where (is_canceled h.public s id) h.public.requests) == 0)) _ _ t t)
-next_table set h step.Begin w e t = table_if h.public t (is_off h.public.device) _ _ t (table_begin_with h.public t (working h.public.requests) (eligible (holder_of h.public.line) h.public.requests))
-next_table set h step.Finish w e t = table_finish h.public t set h.held (working h.public.requests) w e
-next_table set h (step.Press k) w e t = table_press set h (running h.public) k t
-next_table set h (step.Tick n) w e t = t
-next_table set h (step.Ask s q) w e t = table_own h.public t s _ t
-next_table set h step.Off w e t = table_if h.public t (is_off h.public.device) _ _ t t
-next_table set h step.Boot w e t = table_if h.public t (is_off h.public.device) _ _ (table_loads h.public t w e) t
+next_table : (law : ChangesKeepATable) (set : Setting) (h : Flat) (s : Step) (w : DiskWord) → loads_table w ≡ true → Table h.public.keys → Table (next set h s w).state.public.keys
+next_table law set h (step.Open s) w e t = table_if law h.public t (is_open s h.public.sessions) _ _ t t
+next_table law set h (step.Close s) w e t = table_own law h.public t s _ t
+next_table law set h (step.Listen s c) w e t = table_own law h.public t s _ t
+next_table law set h (step.Lock s) w e t = table_own law h.public t s _ t
+next_table law set h (step.Unlock s) w e t = table_own law h.public t s _ (table_if law h.public t (holds s h.public.line) _ _ t t)
+next_table law set h (step.Submit s limit c) w e t = table_submit law h.public t (submit_refusal set.works h.public s c) s limit c
+next_table law set h (step.Cancel s id) w e t = table_own law h.public t s _ (table_if law h.public t (not (id == 0) && (length (pending_where (is_canceled h.public s id) h.public.requests) == 0)) _ _ t t)
+next_table law set h step.Begin w e t = table_if law h.public t (is_off h.public.device) _ _ t (table_begin_with law h.public t (working h.public.requests) (eligible (holder_of h.public.line) h.public.requests))
+next_table law set h step.Finish w e t = table_finish law h.public t set h.held (working h.public.requests) w e
+next_table law set h (step.Press k) w e t = table_press set h (running h.public) k t
+next_table law set h (step.Tick n) w e t = t
+next_table law set h (step.Ask s q) w e t = table_own law h.public t s _ t
+next_table law set h step.Off w e t = table_if law h.public t (is_off h.public.device) _ _ t t
+next_table law set h step.Boot w e t = table_if law h.public t (is_off h.public.device) _ _ (table_loads law h.public t w e) t
 
-pub table_step : (set : Setting) (h : Flat) (s : Step) (w : DiskWord) → IsTrue (loads_table w) → IsTrue (is_table h.public.keys) → IsTrue (is_table (next set h s w).state.public.keys)
-table_step set h s w e t = table_to (next set h s w).state.public.keys (next_table set h s w e (table_from h.public.keys t))
+pub table_step : (law : ChangesKeepATable) (set : Setting) (h : Flat) (s : Step) (w : DiskWord) → IsTrue (loads_table w) → IsTrue (is_table h.public.keys) → IsTrue (is_table (next set h s w).state.public.keys)
+table_step law set h s w e t = next_table law set h s w e t
 
-table_run : (set : Setting) (h : Flat) (acts : List Act) → list_all (λ (a : Act). loads_table a.word) acts ≡ true → IsTrue (is_table h.public.keys) → IsTrue (is_table (run_from set h acts).public.keys)
-table_run set h [] e t = t
-table_run set h (a ∷ acts) e t =
+table_run : (law : ChangesKeepATable) (set : Setting) (h : Flat) (acts : List Act) → list_all (λ (a : Act). loads_table a.word) acts ≡ true → IsTrue (is_table h.public.keys) → IsTrue (is_table (run_from set h acts).public.keys)
+table_run law set h [] e t = t
+table_run law set h (a ∷ acts) e t =
     let parts = both (loads_table a.word) (list_all (λ (b : Act). loads_table b.word) acts) e in
-    table_run set (next set h a.step a.word).state acts parts.1 (table_step set h a.step a.word parts.0 t)
+    table_run law set (next set h a.step a.word).state acts parts.1 (table_step law set h a.step a.word parts.0 t)
 
-pub table_runs : (set : Setting) (start : Flat) (acts : List Act) → IsStart start → IsTrue (list_all (λ (a : Act). loads_table a.word) acts) → IsTrue (is_table (run_from set start acts).public.keys)
-table_runs set start acts (inl e) loaded = table_run set start acts loaded (subst (λ (h : Flat). is_table h.public.keys ≡ true) (sym e) refl)
-table_runs set start acts (inr e) loaded = table_run set start acts loaded (subst (λ (h : Flat). is_table h.public.keys ≡ true) (sym e) refl)
+pub table_runs : (law : ChangesKeepATable) (set : Setting) (start : Flat) (acts : List Act) → IsStart start → IsTrue (list_all (λ (a : Act). loads_table a.word) acts) → IsTrue (is_table (run_from set start acts).public.keys)
+table_runs law set start acts (inl e) loaded = table_run law set start acts loaded (subst (λ (h : Flat). is_table h.public.keys ≡ true) (sym e) refl)
+table_runs law set start acts (inr e) loaded = table_run law set start acts loaded (subst (λ (h : Flat). is_table h.public.keys ≡ true) (sym e) refl)

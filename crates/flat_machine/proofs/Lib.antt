@@ -41,7 +41,6 @@ pub mod SessionRuns
 pub mod SoundLemmas
 pub mod StepWalk
 pub mod SubmitLemmas
-pub mod TableLemmas
 pub mod TwinLemmas
 pub mod TwinRuns
 pub mod Unwinding

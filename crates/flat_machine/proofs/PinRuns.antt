@@ -1,5 +1,5 @@
 -- PIN blocks and checks, and how long a PIN is held, computed by the definitions alone.
-use Rattle.des_core.specs.Bits.{exclusive_or}
+use Rattle.pad_words.specs.Bytes.{exclusive_or}
 use Rattle.flat_machine.proofs.RunCommands.{begun_entry, block_of, checked, digit, done, ending_keys, entered_0000, entered_1234, entry_keys, four_entered, get_pin, iso0_block, local_check, pin_block, pin_key, press_cancel, press_enter, refused, with_pin_key, yes, zero_check}
 use Rattle.flat_machine.proofs.RunWords.{done_quietly, quiet, replies_by, said_after, session_1, zero_encrypted}
 use Rattle.flat_machine.specs.Machine.{Act}

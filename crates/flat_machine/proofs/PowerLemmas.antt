@@ -1,7 +1,7 @@
 -- What Off and a cut leave.
 use Rattle.flat_machine.specs.Decisions.{Decided, Goes, Stops}
 use Rattle.flat_machine.specs.FinishSteps.{delete_now, deletes, finish_by, finish_with, import_now, imports, init_now, inits, plan_by, plan_delete, plan_finish, plan_import, plan_init}
-use Rattle.flat_machine.specs.KeyRows.{Change, change_to, changed}
+use Rattle.key_table.specs.Changes.{changed, change_to, Change}
 use Rattle.flat_machine.specs.Machine.{fits, next}
 use Rattle.flat_machine.specs.PinFacts.{PoweredOff}
 use Rattle.flat_machine.specs.Power.{Loading, Nothing, Plan, fits_plan, loads, powers_off, replaces}

@@ -2,7 +2,7 @@
 use Rattle.flat_machine.proofs.RunCommands.{begun_entry, block_of, checked, done, entered_0000, four_entered, import_clear, pin_block, pin_key, refused, unchecked, with_pin_key, zero_check}
 use Rattle.flat_machine.proofs.RunWords.{all_fit, beginning, counting_key, done_on_disk, done_quietly, fates_by, quiet, replies_by, said_after, said_by, session_1, setting, with_word, zero_encrypted}
 use Rattle.flat_machine.specs.Arms.{Cuts, Due}
-use Rattle.cbc_mac.specs.Modes.{zero_block}
+use Rattle.pad_words.specs.Bytes.{zero_block}
 use Rattle.flat_machine.specs.Machine.{Act, plan, run}
 use Rattle.flat_machine.specs.Power.{Plan}
 use Rattle.flat_machine.specs.State.{opening}

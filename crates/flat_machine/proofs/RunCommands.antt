@@ -1,6 +1,6 @@
 -- Commands, presses and replies, for the runs that are computed in the files beside this one.
 use Rattle.flat_machine.proofs.RunWords.{beginning, done_on_disk, quiet, session_1}
-use Rattle.cbc_mac.specs.Modes.{zero_block}
+use Rattle.pad_words.specs.Bytes.{zero_block}
 use Rattle.flat_machine.specs.Machine.{Act}
 use Rattle.key_source.specs.declared.Key.{Key}
 use Rattle.key_source.specs.declared.Mask.{Mask}

@@ -1,5 +1,5 @@
 -- Words to write runs with, for the runs that are computed in the files beside this one.
-use Rattle.cbc_mac.specs.Modes.{zero_block}
+use Rattle.pad_words.specs.Bytes.{zero_block}
 use Rattle.flat_machine.specs.Ciphers.{Ciphers}
 use Rattle.flat_machine.specs.Facts.{outs_of}
 use Rattle.flat_machine.specs.Machine.{Act, fits, lines_from, next, run}

@@ -1,12 +1,13 @@
 -- Every step keeps a state sound.
 use Rattle.flat_machine.proofs.PassLemmas.{allowed-on, pass-all_ended, pass-begun, pass-ended_where, pass-finished, pass-push, pass-refused_at_begin, pass-weaken}
 use Rattle.flat_machine.proofs.SubmitLemmas.{submitted_ok}
-use Rattle.flat_machine.specs.Ciphers.{check_value}
+use Rattle.check_values.specs.CheckValues.{check_value}
 use Rattle.flat_machine.specs.Decisions.{Decided, Goes, Stops}
 use Rattle.flat_machine.specs.Entries.{Entry, active_seen, entered, entry_of, entry_refusal}
 use Rattle.flat_machine.specs.EntrySteps.{begin_as, begin_entry, begin_with, entry_answer, first_of, press_in, press_seen}
 use Rattle.flat_machine.specs.FinishSteps.{crypt_now, delete_now, deletes, device_reply, finish_by, finish_pin, finish_with, import_now, imports, init_now, inits, maintain_now, maintains, pin_now, resets}
-use Rattle.flat_machine.specs.KeyRows.{Change, KeyRows, change_to, changed}
+use Rattle.key_table.specs.Changes.{changed, change_to, Change}
+use Rattle.key_table.specs.KeyRows.{KeyRows}
 use Rattle.flat_machine.specs.Machine.{next}
 use Rattle.flat_machine.specs.Power.{loads, replaces}
 use Rattle.flat_machine.specs.RequestSteps.{is_canceled, is_due, submit_by, submit_refusal}
@@ -117,7 +118,7 @@ module _ (ok : Command → Bool) (p : Public) (sound : Sound ok p) where
   sound_finish_by set held a (command.MaintainPin on) w = sound_decided a (maintain_now p on) (maintains p a) (λ x. sound_finished (reply.Ok answer.Done))
   sound_finish_by set held a (command.Pin r) w = sound_pin set held a r (pin_now set.works p (length held) r)
   sound_finish_by set held a (command.Crypt r) w = sound_decided a (crypt_now set.cipher p r) _ (λ x. sound_finished (reply.Ok x))
-  sound_finish_by set held a (command.ImportKey r) w = sound_decided a (import_now set.cipher p r) _ (λ new. sound_replaces a (change_to new ∷ []) (imports set.cipher a r new.1) w (λ keys. sound_finished (reply.Ok (answer.Key (check_value set.cipher r.verify new.1.value)))))
+  sound_finish_by set held a (command.ImportKey r) w = sound_decided a (import_now set.cipher p r) _ (λ new. sound_replaces a (change_to new ∷ []) (imports set.cipher a r new.1) w (λ keys. sound_finished (reply.Ok (answer.Key (check_value set.cipher.tdea r.verify new.1.value)))))
   sound_finish_by set held a (command.DeleteKey name) w = sound_decided a (delete_now p name) _ (λ c. sound_replaces a (c ∷ []) (deletes a) w (λ keys. sound_finished (reply.Ok answer.Done)))
   sound_finish_by set held a command.Init w = sound_decided a (init_now p) _ (λ todo. sound_replaces a todo (inits a) w (λ keys. sound_finished (reply.Ok answer.Done)))
   sound_finish_by set held a command.Reset w = sound_reset a w

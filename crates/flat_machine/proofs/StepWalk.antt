@@ -1,13 +1,15 @@
 -- What each kind of step but Press, and but those of sessions, does to the requests, the sessions, the line and the part buffer.
 use Rattle.flat_machine.proofs.EndingLemmas.{endings-accuses, endings-ended, endings-execute_event, endings-service_events}
 use Rattle.flat_machine.proofs.RequestMoves.{Begun, Drawn, EndedWhere, Finished, Moves, RefusedAtBegin, Rows, Unmoved, ending_of}
-use Rattle.flat_machine.specs.Ciphers.{Ciphers, check_value}
+use Rattle.flat_machine.specs.Ciphers.{Ciphers}
+use Rattle.check_values.specs.CheckValues.{check_value}
 use Rattle.flat_machine.specs.Decisions.{Decided, Goes, Stops}
 use Rattle.flat_machine.specs.Entries.{Entry, entry_of, entry_refusal, is_key_part}
 use Rattle.flat_machine.specs.EntrySteps.{begin_as, begin_entry, begin_with, first_of, next_begin}
 use Rattle.flat_machine.specs.FinishSteps.{crypt_now, delete_now, deletes, device_reply, finish_by, finish_pin, finish_with, import_now, imports, init_now, inits, maintain_now, maintains, pin_now, resets}
-use Rattle.flat_machine.specs.Imports.{is_part}
-use Rattle.flat_machine.specs.KeyRows.{Change, KeyRows, change_to, changed}
+use Rattle.key_import.specs.Imports.{is_part}
+use Rattle.key_table.specs.Changes.{changed, change_to, Change}
+use Rattle.key_table.specs.KeyRows.{KeyRows}
 use Rattle.flat_machine.specs.Power.{loads, powers_off, replaces}
 use Rattle.flat_machine.specs.RequestFacts.{Ending}
 use Rattle.flat_machine.specs.RequestSteps.{cancels, is_canceled, is_due, next_tick, submit_by}
@@ -156,7 +158,7 @@ module _ (p : Public) (a : Asked Command) (w : working p.requests ≡ Some a) wh
   walk_pin set held r (Goes y) = record { moves = Finished (reply.Ok (pin_answer set p.drawn r held y)) a w refl refl; sessions = refl; line = refl; part = inl refl }
 
   walk_imports : (cipher : Ciphers) (r : ImportRequest) (row : KeyRow) (keys : KeyRows) → Walks p (imports cipher a r row (record p { keys = keys }))
-  walk_imports cipher r row keys = record { moves = Finished (reply.Ok (answer.Key (check_value cipher r.verify row.value))) a w refl refl; sessions = refl; line = refl; part = part_if (is_part r.source) p.part }
+  walk_imports cipher r row keys = record { moves = Finished (reply.Ok (answer.Key (check_value cipher.tdea r.verify row.value))) a w refl refl; sessions = refl; line = refl; part = part_if (is_part r.source) p.part }
 
   walk_inits : (keys : KeyRows) → Walks p (inits a (record p { keys = keys }))
   walk_inits keys = record { moves = Finished (reply.Ok answer.Done) a w refl (ap (λ (es : List Ending). ending_of a (reply.Ok answer.Done) ∷ es) (endings-service_events p.sessions event.Initialized)); sessions = refl; line = refl; part = inr refl }

@@ -5,7 +5,8 @@ use Rattle.crypt_commands.specs.declared.CryptOut.{CryptOut}
 use Rattle.crypt_commands.specs.declared.CryptOut.TheVariants as output
 use Rattle.flat_machine.specs.Ciphers.{Ciphers}
 use Rattle.flat_machine.specs.Decisions.{Decided, Goes, and_then, unless}
-use Rattle.flat_machine.specs.KeyRows.{KeyRows, permit, permit_maybe}
+use Rattle.flat_machine.specs.Permits.{permit_maybe, permit}
+use Rattle.key_table.specs.KeyRows.{KeyRows}
 use Rattle.key_attributes.specs.declared.Use.{Use}
 use Rattle.pad_steps.specs.declared.commands.Algorithm.{Algorithm}
 use Rattle.pad_steps.specs.declared.answers.Answer.{Answer}

@@ -1,5 +1,6 @@
 -- Begin and Press. Press is the one step that sees which digit was pressed.
-use Rattle.flat_machine.specs.Ciphers.{Ciphers, check_value}
+use Rattle.flat_machine.specs.Ciphers.{Ciphers}
+use Rattle.check_values.specs.CheckValues.{check_value}
 use Rattle.flat_machine.specs.Entries.{Entry, active_seen, entered, entry_of, entry_refusal, is_key_part, is_pin}
 use Rattle.flat_machine.specs.Requests.{begun, eligible, finished, refused_at_begin, working}
 use Rattle.flat_machine.specs.declared.types.Asked.{Asked}
@@ -64,7 +65,7 @@ module _ (cipher : Ciphers) where
   -- the check value of an entered key part; none for an empty one
   abbrev pub part_check : Verify → List ℕ → Option (List ℕ)
   part_check check [] = None
-  part_check check (first ∷ rest) = check_value cipher check (packed (first ∷ rest))
+  part_check check (first ∷ rest) = check_value cipher.tdea check (packed (first ∷ rest))
 
   -- the reply of an entry that ended: of a PIN and of a key part the number of digits, of data the digits
   abbrev pub entry_answer : EntryKind → Verify → Completion → List ℕ → Answer

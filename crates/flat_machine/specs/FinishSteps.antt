@@ -1,9 +1,12 @@
 -- Finish, of each command. Each command that is no entry is a decision first: the reply, the device calls and the released value all follow from that one decision.
-use Rattle.flat_machine.specs.Ciphers.{Ciphers, check_value}
+use Rattle.flat_machine.specs.Ciphers.{Ciphers}
+use Rattle.check_values.specs.CheckValues.{check_value}
 use Rattle.flat_machine.specs.Crypts.{decide_crypt}
 use Rattle.flat_machine.specs.Decisions.{Decided, Goes, Stops}
-use Rattle.flat_machine.specs.Imports.{decide_import, is_part}
-use Rattle.flat_machine.specs.KeyRows.{Change, change_to, erasures, find_key}
+use Rattle.flat_machine.specs.Imports.{decide_import}
+use Rattle.key_import.specs.Imports.{is_part}
+use Rattle.key_table.specs.Changes.{erasures, change_to, Change}
+use Rattle.key_table.specs.KeyRows.{find_key}
 use Rattle.flat_machine.specs.Power.{Loading, Nothing, Plan, Replacing, loads, replaces}
 use Rattle.flat_machine.specs.Requests.{working}
 use Rattle.flat_machine.specs.declared.types.Asked.{Asked}
@@ -55,7 +58,7 @@ maintains public request on = dropping_pin (not on) (replies (record public { ma
 -- IMPORT_KEY, done: answered by the new value's check value; an import from the part buffer empties it
 abbrev pub imports : Ciphers → Asked Command → ImportRequest → KeyRow → Public → Said
 imports cipher request importing row public = replies (record public { part = if is_part importing.source then [] else public.part })
-    request (replied.Ok (answers.Key (check_value cipher importing.verify row.value)))
+    request (replied.Ok (answers.Key (check_value cipher.tdea importing.verify row.value)))
 
 -- INITIALIZATION, done: the held PIN and the part buffer are cleared, and INITIALIZED is sent after the reply; maintain stays
 abbrev pub inits : Asked Command → Public → Said

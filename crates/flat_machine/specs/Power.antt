@@ -1,5 +1,6 @@
 -- Power, loading of the store, and what a disk word does to the state. A step that would call the disk has a word that says what came of the calls.
-use Rattle.flat_machine.specs.KeyRows.{Change, KeyRows, changed, put_row, same_rows}
+use Rattle.key_table.specs.Changes.{changed, Change}
+use Rattle.key_table.specs.KeyRows.{same_rows, put_row, KeyRows}
 use Rattle.flat_machine.specs.declared.types.Asked.{Asked}
 use Rattle.flat_machine.specs.State.{Public, Said, ends, dropping_pin, replies, unchanged}
 use Rattle.flat_machine.specs.declared.types.Device.TheVariants.{Bad, Off, Ready, Stopped}

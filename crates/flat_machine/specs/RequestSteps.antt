@@ -1,8 +1,9 @@
 -- Submit, Cancel, Tick and Ask (WFSExecute, WFSCancelAsyncRequest, time-outs, WFSGetInfo).
-use Rattle.flat_machine.specs.Ciphers.{Ciphers, check_value}
+use Rattle.flat_machine.specs.Ciphers.{Ciphers}
+use Rattle.check_values.specs.CheckValues.{check_value}
 use Rattle.crypt_commands.specs.Faults.{is_decrypt, is_mac}
-use Rattle.flat_machine.specs.Imports.{is_part}
-use Rattle.flat_machine.specs.KeyRows.{find_key, names_of}
+use Rattle.key_import.specs.Imports.{is_part}
+use Rattle.key_table.specs.KeyRows.{names_of, find_row}
 use Rattle.flat_machine.specs.Requests.{Found, Nowhere, Replied, StillPending, look, pending_count, pending_where, same_session}
 use Rattle.flat_machine.specs.declared.types.Asked.{Asked}
 use Rattle.flat_machine.specs.declared.types.Row.TheVariants.{Waiting}
@@ -150,12 +151,12 @@ status_view public pin session = record {
 
 -- the answer to `key` (WFS_INF_PIN_KEY_DETAIL in outline): name, uses, length and the check value of the zero block, which a key under construction has not
 abbrev pub key_view : Ciphers → KeyRow → KeyView
-key_view cipher row = record { name = row.name; uses = row.uses; length = length row.value; check = if under_construction row.uses then None else check_value cipher verify.Zero row.value }
+key_view cipher row = record { name = row.name; uses = row.uses; length = length row.value; check = if under_construction row.uses then None else check_value cipher.tdea verify.Zero row.value }
 
 -- KEYNOTFOUND, or what the row shows
-abbrev pub told_key : Ciphers → Option (ℕ × KeyRow) → Told
+abbrev pub told_key : Ciphers → Option KeyRow → Told
 told_key cipher None = told.No refusals.KeyNotFound
-told_key cipher (Some found) = told.Key (key_view cipher found.1)
+told_key cipher (Some row) = told.Key (key_view cipher row)
 
 -- a device that is off, stopped or bad tells its refusal in place of its keys
 abbrev pub told_ready : Device → Told → Told
@@ -173,7 +174,7 @@ told_request id (Replied reply) = told.Reply id reply
 -- the answer to a question
 abbrev pub answer_to : Ciphers → Public → Bool → Session → Question → Told
 answer_to cipher public pin session questions.Status = told.Status (status_view public pin session)
-answer_to cipher public pin session (questions.Key name) = told_ready public.device (told_key cipher (find_key name public.keys))
+answer_to cipher public pin session (questions.Key name) = told_ready public.device (told_key cipher (find_row name public.keys))
 answer_to cipher public pin session questions.Names = told_ready public.device (told.Names (names_of public.keys))
 answer_to cipher public pin session (questions.Reply id) = told_request id (look session (floor_of session public.sessions) id public.requests)
 

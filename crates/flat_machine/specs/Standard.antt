@@ -1,5 +1,5 @@
 -- The standard PIN work, PIN blocks (GET_PINBLOCK) and the local check of an IBM 3624 PIN (LOCAL_DES), and the setting of the pad.
-use Rattle.des_core.specs.Bits.{exclusive_or}
+use Rattle.pad_words.specs.Bytes.{exclusive_or, packed, unpacked}
 use Rattle.des_core.specs.TripleDes.{tdea_back_bytes, tdea_bytes}
 use Rattle.flat_machine.specs.Ciphers.{Ciphers}
 use Rattle.flat_machine.specs.Decisions.{Decided, Goes, Stops, unless}
@@ -11,7 +11,6 @@ use Rattle.pad_steps.specs.declared.commands.Form.{Form}
 use Rattle.pad_steps.specs.declared.commands.PinRequest.{PinRequest}
 use Rattle.pad_steps.specs.declared.answers.Refusal.{Refusal}
 use Rattle.pad_words.specs.declared.bytes.Block.{Block}
-use Rattle.pad_words.specs.Bytes.{packed, unpacked}
 use Rattle.pin_blocks.specs.Blocks.{block_nibbles, fits_form, longest, sixteen}
 use Rattle.std.specs.Prelude.{Bool, List, None, Option, Some, [], bytes_eq, false, if◌then◌else◌, is_some, length, map, nat_lt, not, replicate, slice_index, take, true, ℕ, ◌%◌, ◌&&◌, ◌++◌, ◌+◌, ◌-◌, ◌==◌, ◌||◌, ◌∷◌}
 use Rattle.pad_steps.specs.declared.answers.Answer.TheVariants as answers

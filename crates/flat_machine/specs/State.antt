@@ -1,7 +1,8 @@
 -- The machine's state, and what a step does to it. A digit of a PIN stands in two fields of `Flat` alone, `presses` and `held`: a step that cannot see them is a function on `Public`.
 use Rattle.flat_machine.specs.Decisions.{Decided, Goes, Stops}
 use Rattle.flat_machine.specs.Entries.{Entry, entry_of}
-use Rattle.flat_machine.specs.KeyRows.{Change, KeyRows}
+use Rattle.key_table.specs.Changes.{Change}
+use Rattle.key_table.specs.KeyRows.{KeyRows}
 use Rattle.flat_machine.specs.Requests.{ended_where, finished, pending_where, working}
 use Rattle.flat_machine.specs.declared.types.Asked.{Asked}
 use Rattle.flat_machine.specs.declared.types.Row.{Row}

@@ -1,5 +1,6 @@
 -- Which bytes the store can have after a run, as far as the words of the run tell.
-use Rattle.flat_machine.specs.KeyRows.{Change, KeyRows}
+use Rattle.key_table.specs.Changes.{Change}
+use Rattle.key_table.specs.KeyRows.{KeyRows}
 use Rattle.flat_machine.specs.Machine.{Act, next, plan}
 use Rattle.flat_machine.specs.Power.{Loading, Nothing, Plan, Replacing}
 use Rattle.flat_machine.specs.State.{Flat, opening}

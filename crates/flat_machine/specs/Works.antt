@@ -1,7 +1,8 @@
 -- The work of a PIN command, as a parameter: which keys a command wants, when it is ready, and what it answers. A digit stands in one argument alone, that of `result`.
 use Rattle.flat_machine.specs.Ciphers.{Ciphers}
 use Rattle.flat_machine.specs.Decisions.{Decided, Goes, and_then, unless}
-use Rattle.flat_machine.specs.KeyRows.{KeyRows, permit, permit_maybe}
+use Rattle.flat_machine.specs.Permits.{permit_maybe, permit}
+use Rattle.key_table.specs.KeyRows.{KeyRows}
 use Rattle.key_attributes.specs.declared.Use.{Use}
 use Rattle.pad_steps.specs.declared.answers.Answer.{Answer}
 use Rattle.pad_steps.specs.declared.commands.PinRequest.{PinRequest}

@@ -1,6 +1,6 @@
 pub mod BookLemmas
 pub mod ImportLemmas
-pub mod KeyLemmas
+pub mod PlanLemmas
 pub mod PressLemmas
 pub mod QueueLemmas
 pub mod RowLemmas

@@ -1,12 +1,12 @@
 -- What a step leaves to do, and how many ids it draws.
 use Rattle.std.proofs.Common.{ap, arith, inl, inr, length-append, ◌∙◌}
 use Rattle.std.specs.Prelude.{Bool, IsTrue, List, None, Option, Some, [], false, if◌then◌else◌, length, refl, true, ℕ, ◌+◌, ◌<◌, ◌∷◌, ◌≡◌, ◌≤◌, ◌⊎◌}
-use Rattle.flat_machine.specs.Ciphers.{check_value}
+use Rattle.check_values.specs.CheckValues.{check_value}
 use Rattle.flat_machine.specs.Decisions.{Decided, Goes, Stops}
 use Rattle.flat_machine.specs.Entries.{Entry, entry_of, entry_refusal}
 use Rattle.flat_machine.specs.EntrySteps.{begin_as, begin_entry, begin_with, first_of}
 use Rattle.flat_machine.specs.FinishSteps.{crypt_now, delete_now, deletes, device_reply, finish_by, finish_pin, finish_with, import_now, imports, init_now, inits, maintain_now, maintains, pin_now}
-use Rattle.flat_machine.specs.KeyRows.{change_to}
+use Rattle.key_table.specs.Changes.{change_to}
 use Rattle.flat_machine.specs.Power.{replaces}
 use Rattle.flat_machine.specs.Kept.{Kept, KeptAfter, kept_next, kept_press_in, kept_seen}
 use Rattle.flat_machine.specs.Machine.{due_finish, due_in, next_work}
@@ -121,7 +121,7 @@ ends-by set public held asked (command.MaintainPin on) due = ends-decided public
 ends-by set public held asked (command.Pin wanted) due = ends-pin set public held asked wanted (pin_now set.works public (length held) wanted)
 ends-by set public held asked (command.Crypt wanted) due = ends-decided public asked (crypt_now set.cipher public wanted) (λ found. replies public asked (reply.Ok found)) (λ found. (reply.Ok found, refl))
 ends-by set public held asked (command.ImportKey wanted) due = ends-decided public asked (import_now set.cipher public wanted) (λ new. replaces public asked (change_to new ∷ []) (imports set.cipher asked wanted new.1) Quiet)
-    (λ new. (reply.Ok (answer.Key (check_value set.cipher wanted.verify new.1.value)), refl))
+    (λ new. (reply.Ok (answer.Key (check_value set.cipher.tdea wanted.verify new.1.value)), refl))
 ends-by set public held asked (command.DeleteKey name) due = ends-decided public asked (delete_now public name) (λ change. replaces public asked (change ∷ []) (deletes asked) Quiet) (λ change. (reply.Ok Done, refl))
 ends-by set public held asked command.Init due = ends-decided public asked (init_now public) (λ todo. replaces public asked todo (inits asked) Quiet) (λ todo. (reply.Ok Done, refl))
 ends-by set public held asked command.Reset due = (device_reply public.device, refl)

@@ -1,10 +1,11 @@
 -- What the code keeps of the requests of a run.
 use Rattle.flat_machine.specs.Requests.{same_session}
+use Rattle.pad_words.specs.Names.{is_key_name}
 use Rattle.pad_words.specs.declared.numbers.Session.{Session}
 use Rattle.flat_machine.specs.Sound.{pending_pass}
 use Rattle.flat_machine.specs.declared.types.Row.{Row}
 use Rattle.flat_machine.specs.declared.types.Row.TheVariants.{Gone, InWork, Waiting}
-use Rattle.flat_machine.specs.RequestSteps.{is_cfb}
+use Rattle.flat_machine.specs.RequestSteps.{import_invalid, is_cfb}
 use Rattle.pad_steps.specs.Formed.{is_built_crypt, is_built_entry, is_built_import, is_built_pin}
 use Rattle.pad_steps.specs.declared.commands.Command.TheVariants as command
 use Rattle.pad_steps.specs.declared.answers.Reply.{Reply}
@@ -44,8 +45,8 @@ is_taken (command.SecureKeyEntry rules) = false
 is_taken (command.MaintainPin on) = false
 is_taken (command.Pin request) = is_built_pin request
 is_taken (command.Crypt request) = is_built_crypt request && not (is_cfb request.algorithm)
-is_taken (command.ImportKey request) = is_built_import request
-is_taken (command.DeleteKey name) = false
+is_taken (command.ImportKey request) = is_built_import request && not (import_invalid request)
+is_taken (command.DeleteKey name) = is_key_name name
 is_taken command.Init = false
 is_taken command.Reset = false
 is_taken command.RsaImport = false

@@ -6,7 +6,7 @@ use Rattle.flat_machine.specs.declared.types.Device.TheVariants.{Ready}
 use Rattle.flat_machine.specs.declared.types.Row.{Row}
 use Rattle.flat_machine.specs.declared.types.Row.TheVariants.{Gone, InWork, Waiting}
 use Rattle.flat_machine.specs.declared.types.SessionRow.{SessionRow}
-use Rattle.flat_machine.specs.KeyRows.{KeyRows}
+use Rattle.key_table.specs.KeyRows.{KeyRows}
 use Rattle.pad_machine.specs.declared.entry.RunningEntry.{RunningEntry}
 use Rattle.pad_steps.specs.declared.answers.Reply.{Reply}
 use Rattle.pad_steps.specs.declared.commands.Command.{Command}

@@ -1,13 +1,16 @@
 //! The machine: what it keeps, and its step.
 #![tactic(auto)]
 
+mod blocks;
 mod book;
-mod deciding;
+mod crypts;
 mod digits;
 mod entry;
-mod keys;
+mod imports;
 mod pad;
+mod permits;
 mod queue;
 mod refused;
+mod submits;
 
 pub use pad::{Pad, Stepped};

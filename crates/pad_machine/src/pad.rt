@@ -18,15 +18,15 @@ ghost use Rattle.pad_machine.specs.Stands.{StandsFor, draws, is_press, running_o
 mod finishing;
 
 use crate::book::{enter, is_open, listen, say, send};
-use crate::deciding::command_refusal;
 use crate::digits::PinDigits;
 use crate::entry::{RunningEntry, is_secret_key, seen, take_key};
-use crate::keys::Keys;
 use crate::queue::{Queue, entry_of};
+use crate::submits::command_refusal;
 use flat_machine::laws::kept::kept_steps;
 use flat_machine::laws::twins::unwinding;
 use flat_machine::types::{Asked, Seen, SessionRow};
 use key_source::Key;
+use key_table::KeyTable;
 use pad_steps::{
     Answer, Classes, Command, Completion, DiskWord, Event, Out, Outs, Refusal, Reply, Shown, Step,
     Told,
@@ -46,7 +46,7 @@ pub struct Stepped {
 #[derive(Drop)]
 pub struct Pad {
     alloc: Global,
-    keys: Keys,
+    keys: KeyTable,
     sessions: Vec<SessionRow>,
     requests: Queue,
     digits: PinDigits,
@@ -63,7 +63,7 @@ impl Model for Pad {
 }
 
 impl Pad {
-    /// A pad that is on, with no key, and nothing open, asked or held.
+    /// A pad that is on, with no key, and nothing open, asked or held. It takes the memory for all its keys.
     pub fn new(alloc: Global) -> Result<Pad, NoMemory>
         ensures { IfOk result (λ pad. StandsFor pad ready_opening) }
     {
@@ -72,7 +72,7 @@ impl Pad {
         };
         Ok(Pad {
             alloc,
-            keys: Keys::empty(alloc),
+            keys: KeyTable::new(alloc)?,
             sessions,
             requests: Queue::empty(alloc),
             digits: PinDigits::empty(),

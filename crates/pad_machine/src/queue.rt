@@ -166,7 +166,8 @@ pub fn entry_of(asked: &Asked<Command>) -> Option<RunningEntry>
             session: asked.session,
             rules: *rules,
         }),
-        Command::Pin(_) | Command::Crypt(_) | Command::ImportKey(_) => None,
+        Command::Pin(_) | Command::Crypt(_) => None,
+        Command::ImportKey(_) | Command::DeleteKey(_) => None,
         // No line asks for another command.
         _ => unreachable!(),
     }

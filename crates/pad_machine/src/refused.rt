@@ -1,6 +1,8 @@
 // Refusals of commands.
 ghost use Rattle.std.specs.Prelude.{◌≡◌, None, Some};
+ghost use Rattle.flat_machine.specs.Permits.{denial};
 
+use key_table::Denied;
 use pad_steps::Refusal;
 use pad_words::KeyName;
 
@@ -23,11 +25,16 @@ impl Refused {
         }
     }
 
-    /// A refusal that accuses this key.
-    pub fn of_key(refusal: Refusal, name: &KeyName) -> Refused
-        ensures refusal { result.refusal ≡ refusal }
+    /// The refusal of a use of this key that is denied. It accuses the key.
+    pub fn of_key(denied: Denied, name: &KeyName) -> Refused
+        ensures refusal { result.refusal ≡ denial denied }
         ensures accused { result.accused ≡ Some name.now }
     {
+        let refusal = match denied {
+            Denied::KeyNotFound => Refusal::KeyNotFound,
+            Denied::KeyNoValue => Refusal::KeyNoValue,
+            Denied::UseViolation => Refusal::UseViolation,
+        };
         Refused {
             refusal,
             accused: Some(name.copy()),

@@ -1,30 +1,36 @@
 // Finish: a command that is no entry is done, and its reply is sent.
-ghost use Rattle.std.specs.Prelude.{◌≡◌, ◌≤◌, ◌<◌, ◌+◌, ◌++◌, ◌∷◌, [], ℕ, IfOk, IsTrue, None, OnOk, OnErr, length};
+ghost use Rattle.std.specs.Prelude.{◌≡◌, ◌≤◌, ◌<◌, ◌+◌, ◌++◌, ◌∷◌, [], ℕ, IsTrue, OnOk, OnErr, length};
 ghost use Rattle.flat_machine.specs.FinishSteps.{finish_by, finish_pin, next_finish, pin_now};
 ghost use Rattle.flat_machine.specs.Kept.{Kept, kept_said};
 ghost use Rattle.flat_machine.specs.Standard.{standard_setting};
 ghost use Rattle.flat_machine.specs.State.{refuses, replies};
 ghost use Rattle.flat_machine.specs.declared.types.Asked.{Asked};
-ghost use Rattle.pad_machine.specs.Keys.{is_plain};
-ghost use Rattle.pad_machine.specs.Decided.{block_said, crypt_said, import_said, request_of};
-ghost use Rattle.pad_steps.specs.Formed.{is_built_block, is_built_import};
+ghost use Rattle.pad_machine.specs.Decided.{block_said, crypt_said, deletion_said, import_said, request_of, row_said};
+ghost use Rattle.key_table.specs.KeyRows.{find_key, slot_for};
+ghost use Rattle.pad_machine.specs.Queue.{is_taken};
+ghost use Rattle.pad_steps.specs.Formed.{is_built_block};
 ghost use Rattle.pad_steps.specs.declared.commands.Command.TheVariants.{ImportKey as ImportOf};
-ghost use Rattle.pad_steps.specs.declared.answers.Answer.TheVariants.{Block as BlockAnswer, Crypt as CryptAnswer, Key as KeyAnswer, Mac as MacAnswer};
+ghost use Rattle.pad_steps.specs.declared.answers.Answer.TheVariants.{Block as BlockAnswer, Crypt as CryptAnswer, Done, Key as KeyAnswer, Mac as MacAnswer};
 ghost use Rattle.pad_steps.specs.declared.answers.Reply.TheVariants.{Ok as ReplyOk};
 ghost use Rattle.pad_steps.specs.declared.commands.Command.{Command};
 ghost use Rattle.pad_steps.specs.declared.commands.PinRequest.TheVariants.{Block as BlockOf};
 ghost use Rattle.pad_steps.specs.declared.steps.DiskWord.TheVariants.{Quiet};
 
 use super::Pad;
+use crate::blocks::{block_key, encrypted_block};
 use crate::book::{announce, say};
-use crate::deciding::{block_key, crypted, encrypted_block, imported_row};
+use crate::crypts::crypted;
+use crate::imports::imported_row;
 use crate::refused::Refused;
+use check_values::check_value;
 use crypt_commands::CryptOut;
 use key_attributes::KeyRow;
+use key_table::{KeyNotFound, TableFull};
 use pad_steps::{
-    Answer, BlockRequest, Command, Event, ImportRequest, Out, Outs, PinRequest, Reply,
+    Answer, BlockRequest, Command, Event, ImportRequest, Out, Outs, PinRequest, Refusal, Reply,
+    Verify,
 };
-use pad_words::{Block, NoMemory, Octets, Session};
+use pad_words::{Block, KeyName, NoMemory, Octets, Session};
 
 /// A request by its id, and whose it is.
 #[derive(Clone, Copy, Debug)]
@@ -61,7 +67,14 @@ impl Pad {
             }
             Command::ImportKey(request) => {
                 let decided = pad.decide_import(request);
-                self.finish_import(owner, decided, out)
+                let verify = request.verify;
+                self.finish_import(owner, verify, decided, out);
+                Ok(())
+            }
+            Command::DeleteKey(name) => {
+                let name = name.copy();
+                self.finish_deletion(owner, &name, out);
+                Ok(())
             }
             // An entry ends by a key.
             _ => Ok(()),
@@ -77,12 +90,10 @@ impl Pad {
         Ok(encrypted_block(key, self.held.digits(), request))
     }
 
-    // The slot of an imported key and its row, or the first refusal that applies.
-    fn decide_import(&self, request: &ImportRequest) -> Result<(usize, KeyRow), Refused>
-        requires { IsTrue (is_built_import request.now) }
-        ensures said { (fill : ℕ → ℕ) (asked : Asked Command) → finish_by (standard_setting fill) self.now.public self.now.held asked (ImportOf request.now) Quiet ≡ import_said self.now.public asked result }
-        ensures within { IfOk result (λ new. new.0 ≤ length self.now.public.keys) }
-        ensures plain { IfOk result (λ new. IsTrue (is_plain new.1)) }
+    // The row of an import, or the first refusal that applies before it is put into the table.
+    fn decide_import(&self, request: &ImportRequest) -> Result<KeyRow, Refused>
+        requires { IsTrue (is_taken (ImportOf request.now)) }
+        ensures { (fill : ℕ → ℕ) (asked : Asked Command) → finish_by (standard_setting fill) self.now.public self.now.held asked (ImportOf request.now) Quiet ≡ import_said self.now.public asked request.now.verify result }
     {
         imported_row(&self.keys, request)
     }
@@ -102,28 +113,49 @@ impl Pad {
         }
     }
 
-    // Keeps an imported key, and answers; or refuses.
+    // Keeps the row of an import, and answers its check value; or refuses.
     fn finish_import(
         &mut self,
         owner: Owner,
-        decided: Result<(usize, KeyRow), Refused>,
+        verify: Verify,
+        decided: Result<KeyRow, Refused>,
         out: &mut Outs,
-    ) -> Result<(), NoMemory>
+    )
         requires room { length self.old.public.sessions + 1 ≤ out.old.spare }
-        requires within { IfOk decided (λ new. new.0 ≤ length self.old.public.keys) }
-        requires plain { IfOk decided (λ new. IsTrue (is_plain new.1)) }
-        ensures state { OnOk result (self.new ≡ (kept_said self.old (import_said self.old.public (request_of owner) decided)).state) }
-        ensures outs { OnOk result (out.new.items ≡ out.old.items ++ (import_said self.old.public (request_of owner) decided).outs) }
-        ensures err { OnErr result ((self.new ≡ self.old) × (out.new.items ≡ out.old.items)) }
+        ensures state { self.new ≡ (kept_said self.old (import_said self.old.public (request_of owner) verify decided)).state }
+        ensures outs { out.new.items ≡ out.old.items ++ (import_said self.old.public (request_of owner) verify decided).outs }
     {
         match decided {
-            Ok((slot, row)) => {
-                self.keys.put(slot, row)?;
-                self.end(owner, imported(), imported(), out);
-            }
+            Ok(row) => self.keep(owner, verify, &row, out),
             Err(refused) => self.refuse(owner, refused, out),
         }
-        Ok(())
+    }
+
+    // Keeps the row, and answers its check value; or refuses where there is no slot for it.
+    fn keep(&mut self, owner: Owner, verify: Verify, row: &KeyRow, out: &mut Outs)
+        requires room { length self.old.public.sessions + 1 ≤ out.old.spare }
+        ensures state { self.new ≡ (kept_said self.old (row_said self.old.public (request_of owner) verify row.now (slot_for row.now.name self.old.public.keys))).state }
+        ensures outs { out.new.items ≡ out.old.items ++ (row_said self.old.public (request_of owner) verify row.now (slot_for row.now.name self.old.public.keys)).outs }
+    {
+        match self.keys.put(row) {
+            Ok(()) => {
+                let check = check_value(&row.value, verify);
+                self.end(owner, imported(check), imported(check), out);
+            }
+            Err(TableFull) => self.refuse(owner, Refused::of_none(Refusal::TableFull), out),
+        }
+    }
+
+    // Empties the slot of the key, and answers; or refuses.
+    fn finish_deletion(&mut self, owner: Owner, name: &KeyName, out: &mut Outs)
+        requires room { length self.old.public.sessions + 1 ≤ out.old.spare }
+        ensures state { self.new ≡ (kept_said self.old (deletion_said self.old.public (request_of owner) (find_key name.now self.old.public.keys))).state }
+        ensures outs { out.new.items ≡ out.old.items ++ (deletion_said self.old.public (request_of owner) (find_key name.now self.old.public.keys)).outs }
+    {
+        match self.keys.remove(name) {
+            Ok(()) => self.end(owner, done(), done(), out),
+            Err(KeyNotFound) => self.refuse(owner, Refused::of_none(Refusal::KeyNotFound), out),
+        }
     }
 
     // Answers what CRYPT gives; or refuses.
@@ -201,9 +233,16 @@ fn authenticated(code: Block) -> Reply
     Reply::Ok(Answer::Mac(code))
 }
 
-// The reply of an import that asks for no check value.
-fn imported() -> Reply
-    ensures { result ≡ ReplyOk (KeyAnswer None) }
+// The reply of an import: its check value, if one was asked for.
+fn imported(check: Option<[u8; 3]>) -> Reply
+    ensures { result ≡ ReplyOk (KeyAnswer check) }
 {
-    Reply::Ok(Answer::Key(None))
+    Reply::Ok(Answer::Key(check))
+}
+
+// The reply of a command that gives nothing else.
+fn done() -> Reply
+    ensures { result ≡ ReplyOk Done }
+{
+    Reply::Ok(Answer::Done)
 }

@@ -4,7 +4,12 @@ use Rattle.flat_machine.specs.Kept.{Kept, kept_next}
 use Rattle.flat_machine.specs.Standard.{standard_setting}
 use Rattle.pad_machine.proofs.PressLemmas.{appended}
 use Rattle.pad_machine.proofs.WorkLemmas.{drawn-next, less-next, no_fill}
+use Rattle.flat_machine.specs.Machine.{plan}
+use Rattle.pad_machine.proofs.PlanLemmas.{fits_plan-quiet}
 use Rattle.pad_machine.proofs.pad.Pad.step.Goals as goal
+
+pub returns-clause-fits : goal.returns-clause-fits
+returns-clause-fits c = λ fill state stands none. fits_plan-quiet (plan (standard_setting fill) state.public c.args.step.now) none
 
 pub returns-clause-state : goal.returns-clause-state
 returns-clause-state c = λ fill h stands.
