@@ -34,7 +34,7 @@ const WHOLE: Case<'static, 'static> = Case {
     script: b"",
     source_fails: &[],
     sink_fails: &[],
-    room: 8192,
+    room: 16384,
     status: 0,
     line: 0,
     steps: 0,

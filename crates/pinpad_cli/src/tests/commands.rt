@@ -4,6 +4,7 @@
 //! `printf 041215FEDCBA9876 | xxd -r -p | openssl enc -des-ecb -K 0000000000000000 -nopad -provider legacy -provider default | xxd -p`.
 use super::{Case, WHOLE, compare};
 use std::alloc::Global;
+use std::process::Abort;
 use std::test::Fail;
 
 /// What session 1 does, and how it ends.
@@ -15,8 +16,12 @@ enum Act<'t> {
     Cancel,
     /// A command is submitted and finished with this reply.
     Do(&'t str, &'t str),
+    /// A command is submitted and finished with this reply, and then this event is sent.
+    Accused(&'t str, &'t str, &'t str),
     /// A command is submitted, and refused so.
     Refuse(&'t str, &'t str),
+    /// The classes of events that are listened to.
+    Listen(&'t str),
 }
 
 const ENTRY: &str = "getpin 4 16 hold 000F03FF00000000 0003000000000000";
@@ -88,7 +93,12 @@ impl Play {
             Act::Enter(pin) => self.enter(pin),
             Act::Cancel => self.cancel(),
             Act::Do(command, reply) => self.finish(command, reply),
+            Act::Accused(command, reply, event) => {
+                self.finish(command, reply)?;
+                self.event(event)
+            }
             Act::Refuse(command, code) => self.refuse(command, code),
+            Act::Listen(classes) => self.listen(classes),
         }
     }
 
@@ -106,6 +116,18 @@ impl Play {
         let line = format!(in self.alloc; "submit 1 0 {command}")?;
         let said = format!(in self.alloc; "refused {code}")?;
         self.step(line.as_str(), line.as_str())?;
+        self.said(said.as_str())
+    }
+
+    fn listen(&mut self, classes: &str) -> Result<(), Fail> {
+        let line = format!(in self.alloc; "listen 1 {classes}")?;
+        let said = format!(in self.alloc; "told listening {classes}")?;
+        self.step(line.as_str(), line.as_str())?;
+        self.said(said.as_str())
+    }
+
+    fn event(&mut self, event: &str) -> Result<(), Fail> {
+        let said = format!(in self.alloc; "event {event}")?;
         self.said(said.as_str())
     }
 
@@ -152,7 +174,6 @@ impl Play {
 
 #[test]
 fn keys_blocks_and_crypt(rt: HostRuntime) -> Result<(), Fail> {
-    let alloc = rt.alloc();
     let rows: [(&str, &[Act]); 12] = [
         (
             "a block uses the PIN up",
@@ -306,17 +327,217 @@ fn keys_blocks_and_crypt(rt: HostRuntime) -> Result<(), Fail> {
             ],
         ),
     ];
+    compare_plays(&rt, rt.alloc(), &rows)
+}
+
+// Each list of acts is played from an open session, and the run is compared with it.
+fn compare_plays(
+    rt: &impl Abort,
+    alloc: Global,
+    rows: &[(&'static str, &[Act])],
+) -> Result<(), Fail> {
     for (name, acts) in rows {
         let mut play = Play::open(alloc)?;
-        for act in acts {
+        for act in *acts {
             play.act(*act)?;
         }
-        compare(&rt, alloc, &play.case(name))?;
+        compare(rt, alloc, &play.case(name))?;
     }
     Ok(())
 }
 
-// 64 keys are kept, and a 65th name is refused; a name that is there gets its new key, and each name finds its own.
+const IMPORT_KEK: Act<'static> = Act::Do(
+    "import KEK clear 0000000000000000 0008 zero",
+    "OK key 8CA64D",
+);
+
+const IMPORT_W: Act<'static> = Act::Do(
+    "import W sealed KEK 8CA64DE9C1B123A7 0001 self",
+    "OK key 8CA64D",
+);
+
+#[test]
+fn imports_and_deletions(rt: HostRuntime) -> Result<(), Fail> {
+    let rows: [(&str, &[Act]); 8] = [
+        (
+            "check values of the example of FIPS 81",
+            &[
+                Act::Do(
+                    "import MK clear 0123456789ABCDEFFEDCBA9876543210 0004 zero",
+                    "OK key 08D7B4",
+                ),
+                Act::Do(
+                    "import CK clear 0123456789ABCDEF 0005 zero",
+                    "OK key D5D44F",
+                ),
+                Act::Do(
+                    "crypt mac encrypt CK - 00 4E6F77206973207468652074696D6520666F7220616C6C20",
+                    "OK mac 70A30640CC76DD8B",
+                ),
+                Act::Do(
+                    "import CK clear 0123456789ABCDEF 0005 self",
+                    "OK key 56CC09",
+                ),
+            ],
+        ),
+        (
+            "a sealed import, and each refusal of its key",
+            &[
+                Act::Listen("service"),
+                IMPORT_KEK,
+                IMPORT_W,
+                Act::Accused(
+                    "import X sealed W 8CA64DE9C1B123A7 0001 none",
+                    "USEVIOLATION",
+                    "ILLEGALKEYACCESS W USEVIOLATION",
+                ),
+                Act::Accused(
+                    "import X sealed GONE 8CA64DE9C1B123A7 0001 none",
+                    "KEYNOTFOUND",
+                    "ILLEGALKEYACCESS GONE KEYNOTFOUND",
+                ),
+                Act::Do("import HALF clear 0000000000000000 0048 none", "OK key -"),
+                Act::Accused(
+                    "import X sealed HALF 8CA64DE9C1B123A7 0001 none",
+                    "KEYNOVALUE",
+                    "ILLEGALKEYACCESS HALF KEYNOVALUE",
+                ),
+                Act::Do(
+                    "import N sealed KEK 8CA64DE9C1B123A7 0011 none",
+                    "DUPLICATEKEY KEK",
+                ),
+                Act::Do(
+                    "import N sealed KEK 8CA64DE9C1B123A78CA64DE9C1B123A7 0001 none",
+                    "INVALIDKEYLENGTH",
+                ),
+                Act::Refuse("rsa", "UNSUPPCOMMAND"),
+            ],
+        ),
+        (
+            "service events go to those that listen, and deletions accuse no key",
+            &[
+                Act::Listen("execute"),
+                Act::Do("crypt ecb encrypt GONE - 00 00", "KEYNOTFOUND"),
+                Act::Listen("both"),
+                Act::Accused(
+                    "crypt ecb encrypt GONE - 00 00",
+                    "KEYNOTFOUND",
+                    "ILLEGALKEYACCESS GONE KEYNOTFOUND",
+                ),
+                Act::Do("delete GONE", "KEYNOTFOUND"),
+                Act::Listen("none"),
+                Act::Do("crypt ecb encrypt GONE - 00 00", "KEYNOTFOUND"),
+            ],
+        ),
+        (
+            "a key in two parts",
+            &[
+                Act::Listen("service"),
+                Act::Do("import C clear 0123456789ABCDEF 0044 none", "OK key -"),
+                Act::Accused(
+                    "crypt mac encrypt C - 00 00",
+                    "KEYNOVALUE",
+                    "ILLEGALKEYACCESS C KEYNOVALUE",
+                ),
+                Act::Do("import C clear 0000000000000000 0001 none", "ACCESSDENIED"),
+                Act::Do(
+                    "import C clear 00000000000000000000000000000000 0004 none",
+                    "INVALIDKEYLENGTH",
+                ),
+                Act::Do("import C clear 0000000000000000 0004 zero", "OK key D5D44F"),
+                Act::Do(
+                    "crypt mac encrypt C - 00 4E6F77206973207468652074696D6520666F7220616C6C20",
+                    "OK mac 70A30640CC76DD8B",
+                ),
+            ],
+        ),
+        (
+            "lengths that no key has, and uses that are not valid",
+            &[
+                Act::Do("import D clear 00 0004 none", "INVALIDKEYLENGTH"),
+                Act::Do(
+                    "import D clear 00112233445566778899AABB 0004 none",
+                    "INVALIDKEYLENGTH",
+                ),
+                Act::Refuse("import D clear 0000000000000000 00C4 none", "INVALIDDATA"),
+                Act::Refuse("import D clear 0000000000000000 0010 none", "INVALIDDATA"),
+                Act::Refuse("import D clear 0000000000000000 0104 none", "INVALIDDATA"),
+                Act::Refuse("import D clear 0000000000000000 0000 none", "INVALIDDATA"),
+                Act::Refuse(
+                    "import D sealed KEK 0000000000000000 0084 none",
+                    "INVALIDDATA",
+                ),
+                Act::Do("delete D", "KEYNOTFOUND"),
+            ],
+        ),
+        (
+            "one of two keys forbids the other, complete ones alone",
+            &[
+                Act::Do("import A clear 0123456789ABCDEF 0001 none", "OK key -"),
+                Act::Do("import B clear 0123456789ABCDEF 0002 none", "OK key -"),
+                Act::Do(
+                    "import N clear 0123456789ABCDEF 0011 none",
+                    "DUPLICATEKEY A",
+                ),
+                Act::Do("delete A", "OK"),
+                Act::Do(
+                    "import N clear 0123456789ABCDEF 0011 none",
+                    "DUPLICATEKEY B",
+                ),
+                Act::Do("delete B", "OK"),
+                Act::Do("import N clear 0123456789ABCDEF 0011 none", "OK key -"),
+                Act::Do("import N clear 0123456789ABCDEF 0011 none", "OK key -"),
+                Act::Do(
+                    "import A clear 0123456789ABCDEF 0001 none",
+                    "DUPLICATEKEY N",
+                ),
+                Act::Do("import A clear 0123456789ABCDEF 0041 none", "OK key -"),
+                Act::Do(
+                    "import A clear 0000000000000000 0001 none",
+                    "DUPLICATEKEY N",
+                ),
+                Act::Do("delete N", "OK"),
+                Act::Do("import A clear 0000000000000000 0001 zero", "OK key D5D44F"),
+            ],
+        ),
+        (
+            "a deleted key is gone, and its name may come again",
+            &[
+                IMPORT_CK,
+                Act::Do("delete CK", "OK"),
+                Act::Do("crypt mac encrypt CK - 00 00", "KEYNOTFOUND"),
+                Act::Do("delete CK", "KEYNOTFOUND"),
+                Act::Do(
+                    "import CK clear 0000000000000000 0005 zero",
+                    "OK key 8CA64D",
+                ),
+            ],
+        ),
+        (
+            "an import comes to nothing where its key is refused",
+            &[
+                IMPORT_KEK,
+                Act::Do(
+                    "import KEK sealed GONE 8CA64DE9C1B123A7 0001 none",
+                    "KEYNOTFOUND",
+                ),
+                IMPORT_W,
+                Act::Do(
+                    "import KEK sealed KEK 8CA64DE9C1B123A7 0001 zero",
+                    "OK key 8CA64D",
+                ),
+                Act::Do(
+                    "import W sealed KEK 8CA64DE9C1B123A7 0001 none",
+                    "USEVIOLATION",
+                ),
+            ],
+        ),
+    ];
+    compare_plays(&rt, rt.alloc(), &rows)
+}
+
+// 64 keys are kept, and a 65th name is refused until a key is deleted; a name that is there gets its new key, and each name
+// finds its own.
 #[test]
 fn table_fills_up(rt: HostRuntime) -> Result<(), Fail> {
     let alloc = rt.alloc();
@@ -327,6 +548,7 @@ fn table_fills_up(rt: HostRuntime) -> Result<(), Fail> {
     }
     let rest = [
         Act::Do("import K65 clear 133457799BBCDFF1 0002 none", "TABLEFULL"),
+        Act::Do("import K64 clear 133457799BBCDFF1 0002 none", "OK key -"),
         Act::Do("import K33 clear 133457799BBCDFF1 0002 none", "OK key -"),
         Act::Enter("1234"),
         Act::Do("pinblock iso0 K65 - - 543210123456789 F", "KEYNOTFOUND"),
@@ -336,8 +558,16 @@ fn table_fills_up(rt: HostRuntime) -> Result<(), Fail> {
         ),
         Act::Enter("1234"),
         Act::Do(
-            "pinblock iso0 K64 - - 543210123456789 F",
+            "pinblock iso0 K63 - - 543210123456789 F",
             "OK block DFB4F453C786CCBB",
+        ),
+        Act::Do("delete K1", "OK"),
+        Act::Do("import K65 clear 133457799BBCDFF1 0002 none", "OK key -"),
+        Act::Do("import K1 clear 0000000000000000 0002 none", "TABLEFULL"),
+        Act::Enter("1234"),
+        Act::Do(
+            "pinblock iso0 K65 - - 543210123456789 F",
+            "OK block 3DDA55198A4398D8",
         ),
     ];
     for act in rest {
