@@ -1,1 +1,7 @@
 pub mod GivenBytes
+pub mod SpliceLemmas
+pub mod ToldLemmas
+pub mod CallLemmas
+pub mod CrashImages
+pub mod MemorySteps
+pub mod FileSteps

@@ -2,3 +2,8 @@ pub mod Causes
 pub mod Streams
 pub mod CountedSinks
 pub mod MemoryStreams
+pub mod DiskStates
+pub mod Disks
+pub mod DiskMemories
+pub mod MemoryDisks
+pub mod FileDisks
