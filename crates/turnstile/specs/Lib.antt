@@ -1,0 +1,6 @@
+pub mod Entries
+pub mod Numbers
+pub mod Rules
+pub mod Turns
+pub mod RunningSums
+pub mod Joinings

@@ -1,0 +1,57 @@
+//! What stands behind a turn.
+ghost use Rattle.std.specs.Prelude.{◌≡◌, ℕ, ◌<◌, ◌^◌, ◌++◌, ◌∷◌, [], List, length, IfOk, OnErr};
+ghost use Rattle.turnstile.specs.declared.machine.Entry.{Entry};
+ghost use Rattle.turnstile.specs.Entries.{entry};
+
+use pad_words::NoMemory;
+
+/// An operation with its outcome.
+#[derive(Drop)]
+pub struct Entry<O, R> {
+    pub op: O,
+    pub outcome: R,
+}
+
+/// Why a call was not made. The operation comes back.
+#[derive(Drop)]
+pub enum CallFault<O> {
+    /// Memory was wanting.
+    NoMemory(O),
+    /// The history has this many entries, which is as many as it may have: 1,048,576.
+    HistoryFull(u32, O),
+}
+
+/// What a turn is of. A machine stands for a history: for what its entries made of it. It need not keep that history.
+pub trait Machine: Drop {
+    type Op: Drop;
+
+    type Outcome: Drop;
+
+    /// The histories that a machine stands for.
+    ghost stands: { Self → List (Entry Self.Op Self.Outcome) → Type 0 };
+
+    /// The histories that may be. A machine stands for no others.
+    ghost legal: { List (Entry Self.Op Self.Outcome) → Type 0 };
+
+    /// The operations that may be applied.
+    ghost allows: { Self.Op → Type 0 };
+
+    /// The status after a legal history.
+    ghost status_after: { List (Entry Self.Op Self.Outcome) → ℕ };
+
+    /// Applies an operation, and gives its outcome twice: for the history, and for the caller. The machine then stands for
+    /// the history with this entry at its end. After want of memory it is as before.
+    fn apply(&mut self, op: &Self::Op) -> Result<(Self::Outcome, Self::Outcome), NoMemory>
+        requires room { (history : List (Entry Self.Op Self.Outcome)) × stands self.old history × (length history < 1048576) }
+        requires allowed { allows op.now }
+        ensures twice { IfOk result (λ given. given.0 ≡ given.1) }
+        ensures entered { IfOk result (λ given. (history : List (Entry Self.Op Self.Outcome)) → stands self.old history → stands self.new (history ++ entry op.now given.0 ∷ [])) }
+        ensures unchanged { OnErr result (self.new ≡ self.old) };
+
+    /// The status after the machine's history, a number below 2^43.
+    fn status(&self) -> u64
+        ensures value { (history : List (Entry Self.Op Self.Outcome)) → stands self.now history → result ≡ status_after history }
+        ensures below { result < 2 ^ 43 };
+
+    ghost legal_if: { (machine : Self) (history : List (Entry Self.Op Self.Outcome)) → stands machine history → legal history };
+}

@@ -1,0 +1,161 @@
+//! Callers of one turn, on one thread and on many.
+ghost use Rattle.std.specs.Prelude.{◌≡◌, ℕ, ◌<◌, List, length};
+ghost use Rattle.std.specs.Thread.{IsSync};
+ghost use Rattle.turnstile.specs.declared.view.KnownPass.{KnownPass};
+ghost use Rattle.turnstile.specs.declared.view.MadeEntry.{MadeEntry};
+ghost use Rattle.turnstile.specs.Rules.{entries_of, first_view};
+ghost use Rattle.turnstile.specs.Joinings.{HasJoinedAll};
+ghost use Rattle.turnstile.specs.Numbers.{AreWhole, IsPlaceOf};
+ghost use Rattle.turnstile.specs.Turns.{IsPassOf, view};
+
+use super::adder::Adder;
+use crate::laws::joined_passes_are_whole;
+use crate::{History, Pass, Turn};
+use std::sync::Wait;
+use std::thread::{Threads, join};
+
+/// Adds each number below the count, and gives the pass back.
+pub fn add_all<W: Wait>(
+    rt: &W,
+    turn: &Turn<Adder>,
+    mut pass: Pass<Adder>,
+    count: u64,
+) -> Pass<Adder>
+    requires { IsPassOf turn.now pass }
+    ensures pass { IsPassOf turn.now result }
+    ensures joined { HasJoinedAll (view pass) (view result) }
+{
+    joined_passes_are_whole::<Adder>();
+    for i in 0..count {
+        let _given = turn.call(rt, &mut pass, i);
+    }
+    pass
+}
+
+/// Two threads add.
+pub fn add_both<R: Threads + Wait + Sync>(
+    rt: &R,
+    turn: &Turn<Adder>,
+    mut pass: Pass<Adder>,
+    count: u64,
+) -> Pass<Adder>
+    requires { IsPassOf turn.now pass }
+    ensures pass { IsPassOf turn.now result }
+    ensures joined { HasJoinedAll (view pass) (view result) }
+{
+    joined_passes_are_whole::<Adder>();
+    let other = turn.seat(&mut pass);
+    let (mut one, two) = join(
+        rt,
+        || -> Pass<Adder>
+            requires { IsPassOf turn.now pass }
+            ensures { IsPassOf turn.entry.now result × HasJoinedAll (view pass) (view result) }
+        { add_all(rt, turn, pass, count) },
+        || -> Pass<Adder>
+            requires { IsPassOf turn.now other }
+            ensures { IsPassOf turn.entry.now result × HasJoinedAll (view other) (view result) }
+        { add_all(rt, turn, other, count) },
+    );
+    turn.join(&mut one, two);
+    one
+}
+
+/// Four threads add.
+pub fn add_four<R: Threads + Wait + Sync>(
+    rt: &R,
+    turn: &Turn<Adder>,
+    mut pass: Pass<Adder>,
+    count: u64,
+) -> Pass<Adder>
+    requires { IsPassOf turn.now pass }
+    ensures pass { IsPassOf turn.now result }
+    ensures joined { HasJoinedAll (view pass) (view result) }
+{
+    joined_passes_are_whole::<Adder>();
+    let other = turn.seat(&mut pass);
+    let (mut one, two) = join(
+        rt,
+        || -> Pass<Adder>
+            requires { IsSync R.row × IsPassOf turn.now pass }
+            ensures { IsPassOf turn.entry.now result × HasJoinedAll (view pass) (view result) }
+        { add_both(rt, turn, pass, count) },
+        || -> Pass<Adder>
+            requires { IsSync R.row × IsPassOf turn.now other }
+            ensures { IsPassOf turn.entry.now result × HasJoinedAll (view other) (view result) }
+        { add_both(rt, turn, other, count) },
+    );
+    turn.join(&mut one, two);
+    one
+}
+
+/// Eight threads add.
+pub fn add_eight<R: Threads + Wait + Sync>(
+    rt: &R,
+    turn: &Turn<Adder>,
+    mut pass: Pass<Adder>,
+    count: u64,
+) -> Pass<Adder>
+    requires { IsPassOf turn.now pass }
+    ensures pass { IsPassOf turn.now result }
+    ensures joined { HasJoinedAll (view pass) (view result) }
+{
+    joined_passes_are_whole::<Adder>();
+    let other = turn.seat(&mut pass);
+    let (mut one, two) = join(
+        rt,
+        || -> Pass<Adder>
+            requires { IsSync R.row × IsPassOf turn.now pass }
+            ensures { IsPassOf turn.entry.now result × HasJoinedAll (view pass) (view result) }
+        { add_four(rt, turn, pass, count) },
+        || -> Pass<Adder>
+            requires { IsSync R.row × IsPassOf turn.now other }
+            ensures { IsPassOf turn.entry.now result × HasJoinedAll (view other) (view result) }
+        { add_four(rt, turn, other, count) },
+    );
+    turn.join(&mut one, two);
+    one
+}
+
+/// Sixteen threads add.
+pub fn add_sixteen<R: Threads + Wait + Sync>(
+    rt: &R,
+    turn: &Turn<Adder>,
+    mut pass: Pass<Adder>,
+    count: u64,
+) -> Pass<Adder>
+    requires { IsPassOf turn.now pass }
+    ensures pass { IsPassOf turn.now result }
+    ensures joined { HasJoinedAll (view pass) (view result) }
+{
+    joined_passes_are_whole::<Adder>();
+    let other = turn.seat(&mut pass);
+    let (mut one, two) = join(
+        rt,
+        || -> Pass<Adder>
+            requires { IsSync R.row × IsPassOf turn.now pass }
+            ensures { IsPassOf turn.entry.now result × HasJoinedAll (view pass) (view result) }
+        { add_eight(rt, turn, pass, count) },
+        || -> Pass<Adder>
+            requires { IsSync R.row × IsPassOf turn.now other }
+            ensures { IsPassOf turn.entry.now result × HasJoinedAll (view other) (view result) }
+        { add_eight(rt, turn, other, count) },
+    );
+    turn.join(&mut one, two);
+    one
+}
+
+/// Sixteen threads add, and the turn is closed. Each entry is that of exactly one of the passes.
+pub fn add_and_close<R: Threads + Wait + Sync>(
+    rt: &R,
+    turn: Turn<Adder>,
+    pass: Pass<Adder>,
+    count: u64,
+) -> (Adder, History<u64, u64>)
+    requires { IsPassOf turn pass × (view pass ≡ first_view) }
+    ensures { (passes : List KnownPass) × (log : List (MadeEntry ℕ ℕ)) × (result.1 ≡ entries_of log) × AreWhole passes
+        × ((place : ℕ) → place < length log → (i : ℕ) × IsPlaceOf passes place i × ((j : ℕ) → IsPlaceOf passes place j → j ≡ i)) }
+{
+    joined_passes_are_whole::<Adder>();
+    let pass = add_sixteen(rt, &turn, pass, count);
+    turn.close(rt, pass)
+}
