@@ -2,7 +2,7 @@
 ghost use Rattle.std.specs.Prelude.{◌≤◌};
 
 use super::*;
-use std::fs::OpenOptions;
+use std::fs::{OpenOptions, remove_file};
 use std::test::Fail;
 
 // Two writes, each synced, up to the first call that does not succeed.
@@ -105,6 +105,8 @@ fn calls_while_off_do_not_count(rt: HostRuntime) {
 
 #[test]
 fn disk_in_a_file(rt: HostRuntime) -> Result<(), Fail> {
+    // One that an earlier run left, if it did.
+    let _left = remove_file(&rt, "disk");
     let mut disk = FileDisk::on_path(&rt, "disk")?;
     assert_eq!(rt; first_bytes(&mut disk), Ok([0; 4]));
     assert_eq!(rt; write_twice(&mut disk), Ok(()));
@@ -134,5 +136,6 @@ fn disk_in_a_file(rt: HostRuntime) -> Result<(), Fail> {
         FileDisk::on_path(&rt, "no/disk").err(),
         Some(OpenFault::Failed)
     );
+    remove_file(&rt, "disk")?;
     Ok(())
 }
