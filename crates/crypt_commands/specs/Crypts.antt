@@ -20,7 +20,7 @@ sealing_key started.Zero = None
 sealing_key (started.Clear block) = None
 sealing_key (started.Sealed name block) = Some name
 
--- the bytes that pass the cipher: those to encrypt are padded
+-- the bytes that pass the cipher in a direction: those to encrypt are padded
 abbrev pub padded_to : Direction → List ℕ → ℕ → List ℕ
 padded_to way.Encrypt bytes pad = padded bytes pad
 padded_to way.Decrypt bytes pad = bytes
@@ -33,15 +33,15 @@ module _ (encrypt decrypt : List ℕ → List ℕ → List ℕ) where
   start_block (started.Sealed name block) None = zero_block
   start_block (started.Sealed name block) (Some key) = decrypt key block.0
 
-  -- electronic codebook in a direction
+  -- electronic codebook in a direction; what is encrypted is padded
   abbrev pub ecb_bytes : Direction → List ℕ → ℕ → List ℕ → List ℕ
-  ecb_bytes way.Encrypt key pad bytes = concat (ecb (encrypt key) (blocks_of (padded_to way.Encrypt bytes pad)))
-  ecb_bytes way.Decrypt key pad bytes = concat (ecb (decrypt key) (blocks_of (padded_to way.Decrypt bytes pad)))
+  ecb_bytes way.Encrypt key pad bytes = concat (ecb (encrypt key) (blocks_of (padded bytes pad)))
+  ecb_bytes way.Decrypt key pad bytes = concat (ecb (decrypt key) (blocks_of bytes))
 
-  -- cipher block chaining in a direction
+  -- cipher block chaining in a direction; what is encrypted is padded
   abbrev pub cbc_bytes : Direction → List ℕ → List ℕ → ℕ → List ℕ → List ℕ
-  cbc_bytes way.Encrypt key start pad bytes = concat (cbc (encrypt key) start (blocks_of (padded_to way.Encrypt bytes pad)))
-  cbc_bytes way.Decrypt key start pad bytes = concat (cbc_back (decrypt key) start (blocks_of (padded_to way.Decrypt bytes pad)))
+  cbc_bytes way.Encrypt key start pad bytes = concat (cbc (encrypt key) start (blocks_of (padded bytes pad)))
+  cbc_bytes way.Decrypt key start pad bytes = concat (cbc_back (decrypt key) start (blocks_of bytes))
 
   -- the bytes of ECB or CBC, or the authentication code. Cipher feedback gives nothing: it is refused as it is submitted
   abbrev pub crypt_out : CryptRequest → Algorithm → List ℕ → List ℕ → CryptOut

@@ -1,4 +1,6 @@
 -- Why CRYPT gives nothing.
+use Rattle.cbc_mac.specs.Macs.{is_mac_key_length}
+use Rattle.cbc_mac.specs.declared.mac.MacKind.TheVariants.{Retail, Single}
 use Rattle.crypt_commands.specs.declared.CryptFault.{CryptFault}
 use Rattle.crypt_commands.specs.declared.CryptFault.TheVariants.{InvalidKeyLength, LengthError, NoMemory}
 use Rattle.pad_steps.specs.declared.commands.Algorithm.{Algorithm}
@@ -21,13 +23,13 @@ abbrev pub is_decrypt : Direction → Bool
 is_decrypt way.Encrypt = false
 is_decrypt way.Decrypt = true
 
--- an authentication code in the manner of ANSI X9.9 wants a key of 8 bytes, one in the manner of X9.19 a key of 16
+-- the algorithm gives an authentication code, and the key has not the length that this code wants
 abbrev pub wrong_mac_key : Algorithm → ℕ → Bool
 wrong_mac_key mode.Ecb size = false
 wrong_mac_key mode.Cbc size = false
 wrong_mac_key mode.Cfb size = false
-wrong_mac_key mode.Mac size = not (size == 8)
-wrong_mac_key mode.Retail size = not (size == 16)
+wrong_mac_key mode.Mac size = not (is_mac_key_length Single size)
+wrong_mac_key mode.Retail size = not (is_mac_key_length Retail size)
 
 -- there are no bytes, or the bytes to decrypt are no whole blocks
 abbrev pub wrong_length : Direction → ℕ → Bool

@@ -5,7 +5,7 @@ use Rattle.key_table.specs.KeyRows.{KeyRows, find_key, row_in}
 use Rattle.std.proofs.Common.{◌∙◌}
 use Rattle.std.proofs.lemmas.Bool.{ltb-false, ltb-true}
 use Rattle.std.proofs.lemmas.List.Folds.{find_at}
-use Rattle.std.proofs.lemmas.Option.{slice_get_past, slice_get_read}
+use Rattle.std.proofs.lemmas.Option.{cond_some, slice_get_past, slice_get_read}
 use Rattle.std.specs.List.{find, position, position_or_len}
 use Rattle.std.specs.Option.{option_map}
 use Rattle.std.specs.Prelude.{Bool, List, None, Some, [], bytes_eq, cond, false, length, nat_lt, refl, slice_index_or, true, ℕ, ◌==◌, ◌∷◌, ◌≡◌}
@@ -16,10 +16,6 @@ none_if : (b : Bool) (n : ℕ) → cond b (Some n) None ≡ None → b ≡ false
 none_if true n e = cc
 none_if false n e = refl
 
-some_if : (b : Bool) (n i : ℕ) → cond b (Some n) None ≡ Some i → (b ≡ true) × (n ≡ i)
-some_if true n i e = (refl, cc)
-some_if false n i e = cc
-
 pub find-None : {X : Type 0} (test : X → Bool) (xs : List X) → position test xs ≡ None → find test xs ≡ None
 find-None test xs e =
     let past = ltb-false (position_or_len test xs) (length xs) (none_if (nat_lt (position_or_len test xs) (length xs)) (position_or_len test xs) e) in
@@ -27,7 +23,7 @@ find-None test xs e =
 
 pub find-Some : {X : Type 0} (test : X → Bool) (xs : List X) (i : ℕ) (x : X) → position test xs ≡ Some i → x ≡ slice_index_or xs i x → find test xs ≡ Some x
 find-Some test xs i x e at =
-    let parts = some_if (nat_lt (position_or_len test xs) (length xs)) (position_or_len test xs) i e in
+    let parts = cond_some (nat_lt (position_or_len test xs) (length xs)) (position_or_len test xs) i e in
     let within = ltb-true (position_or_len test xs) (length xs) parts.0 in
     find_at test xs ∙ slice_get_read xs (length xs) (position_or_len test xs) x refl within (rw parts.1 at)
 

@@ -1,4 +1,4 @@
--- The key rows: pairs of a slot and its row, slots rising and below 64, names different. A key stands in a slot, and is found by its name.
+-- The key rows: pairs of a slot and its row. A key stands in a slot, and is found by its name. That slots rise and are below 64, and that names differ, is `is_table`.
 use Rattle.key_attributes.specs.declared.KeyRow.{KeyRow}
 use Rattle.std.specs.List.{list_any}
 use Rattle.std.specs.Option.{option_map}

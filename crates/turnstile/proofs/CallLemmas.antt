@@ -8,6 +8,7 @@ use Rattle.turnstile.specs.declared.held.Held.{Held}
 use Rattle.turnstile.specs.declared.view.MadeEntry.{MadeEntry}
 use Rattle.turnstile.specs.declared.view.PassView.{PassView}
 use Rattle.turnstile.specs.declared.view.Stage.TheVariants.{Idle, Waiting, Served}
+use Rattle.turnstile.proofs.SeatLemmas.{notes_more}
 use Rattle.turnstile.specs.Rules.{entry_in, entries_of, made_by, NotesTrue, SeatState, passes_known, grown, GotTurn, Begun, Carries}
 use Rattle.turnstile.specs.Numbers.{TellsPasses}
 use Rattle.turnstile.specs.Turns.{Enters}
@@ -52,7 +53,8 @@ module _ {X O R : Type 0} where
           room = room;
           kept = λ i. record v { seen = W.seen; mine = v.mine ++ sym here i ∷ [] };
           known = subst (λ (y : PassView O R). TellsPasses y.seen (passes_known y)) two known;
-          notes = subst (λ l. NotesTrue status l v.notes) b.later.1 b.notes;
+          notes_before = subst (λ l. NotesTrue status l v.notes) b.later.1 b.notes;
+          notes = notes_more status s (made_by v.number e ∷ []) v.notes b.notes;
         }
 
 pub err_map : {T E : Type 0} (P Q : Type 0) (r : Result T E) → (P → Q) → OnErr r P → OnErr r Q

@@ -3,7 +3,7 @@ use Rattle.std.proofs.Common.{◌≡◌, ◌≤◌, ◌<◌, ◌++◌, ◌∷◌
 use Rattle.std.proofs.lemmas.Bool.{cases_eq}
 use mathlib.Core.Option.{some, some-injective}
 use lib.ListN.{get_elem?}
-use Rattle.turnstile.proofs.ListLemmas.{each_at}
+use Rattle.turnstile.proofs.ListLemmas.{each_append, each_at, each_map}
 use Rattle.turnstile.specs.Joinings.{HasJoinedAll, HasNumber, HasSeated}
 use Rattle.turnstile.specs.Numbers.{AreWhole, Each}
 use Rattle.turnstile.specs.Rules.{Settled, first_view, joined, known_self, new_seat, passes_known, with_new_seat}
@@ -20,14 +20,6 @@ has_left number (p ∷ ps) qs (inr has) = inr (has_left number ps qs has)
 has_right : (number : List ℕ) (ps qs : List KnownPass) → HasNumber number qs → HasNumber number (ps ++ qs)
 has_right number [] qs has = has
 has_right number (p ∷ ps) qs has = inr (has_right number ps qs has)
-
-each_append : (P : KnownPass → Type 0) (ps qs : List KnownPass) → Each P ps → Each P qs → Each P (ps ++ qs)
-each_append P [] qs first second = second
-each_append P (p ∷ ps) qs first second = (first.0, each_append P ps qs first.1 second)
-
-each_map : (P Q : KnownPass → Type 0) (ps : List KnownPass) → ((p : KnownPass) → P p → Q p) → Each P ps → Each Q ps
-each_map P Q [] f each = tt
-each_map P Q (p ∷ ps) f each = (f p each.0, each_map P Q ps f each.1)
 
 -- all that the first pass seated
 

@@ -1,9 +1,10 @@
 -- Facts of each element of a list, and lists of numbers.
-use Rattle.std.proofs.Common.{◌≡◌, ◌≢◌, ℕ, zero, suc, ◌⊎◌, Bool, true, false, ◌&&◌, eqb, eq-eqb, eqb-true, List, [], ◌∷◌, ◌++◌, length, sym, refl, ap, ◌∙◌, subst, inl, inr, ⊎_elim, arith, length-append}
+use Rattle.std.proofs.Common.{◌≡◌, ◌≢◌, ℕ, zero, suc, ◌⊎◌, Bool, true, false, List, [], ◌∷◌, ◌++◌, length, sym, refl, ap, ◌∙◌, subst, inl, inr, ⊎_elim, arith, length-append}
 use mathlib.Core.Option.{some, some-injective, some-ne-none}
-use mathlib.Core.Path.{Path}
 use lib.ListN.{get_elem?}
-use Rattle.turnstile.specs.Numbers.{same_number, Each}
+use Rattle.std.proofs.lemmas.Slice.Eq.{bytes_eq-Decides}
+use Rattle.std.specs.Prelude.{bytes_eq}
+use Rattle.turnstile.specs.Numbers.{Each}
 
 module _ {A : Type 0} where
   pub each_map : (P Q : A → Type 0) (l : List A) → ((x : A) → P x → Q x) → Each P l → Each Q l
@@ -30,29 +31,19 @@ module _ {A : Type 0} where
   at_end (x ∷ xs) a b zero e = inl e
   at_end (x ∷ xs) a b (suc j) e = ⊎_elim (λ h. inl h) (λ h. inr (ap suc h.0, h.1)) (at_end xs a b j e)
 
-pub same_refl : (n : List ℕ) → same_number n n ≡ true
-same_refl [] = refl
-same_refl (x ∷ xs) = ap (λ b. b && same_number xs xs) (eq-eqb x x refl) ∙ same_refl xs
-
-pub same_eq : (a b : List ℕ) → same_number a b ≡ true → a ≡ b
-same_eq [] [] e = refl
-same_eq [] (y ∷ ys) e = cc
-same_eq (x ∷ xs) [] e = cc
-same_eq (x ∷ xs) (y ∷ ys) e = go (same_eq xs ys) (eqb x y) refl
-  where
-    go : (same_number xs ys ≡ true → xs ≡ ys) → (b : Bool) → eqb x y ≡ b → Path (List ℕ) (x ∷ xs) (y ∷ ys)
-    go ih true is = let tails : same_number xs ys ≡ true = sym (ap (λ b. b && same_number xs ys) is) ∙ e in λ i. eqb-true x y is i ∷ ih tails i
-    go ih false is = let no : false ≡ true = sym (ap (λ b. b && same_number xs ys) is) ∙ e in cc
+-- a number is the same as itself
+pub same_refl : (n : List ℕ) → bytes_eq n n ≡ true
+same_refl n = (bytes_eq-Decides n n).1 refl
 
 -- two numbers are the same or not
-pub by_same : (a b : List ℕ) (F : Bool → Type 0) → (a ≡ b → F true) → (a ≢ b → F false) → F (same_number a b)
-by_same a b F hit miss = go (same_number a b) refl
+pub by_same : (a b : List ℕ) (F : Bool → Type 0) → (a ≡ b → F true) → (a ≢ b → F false) → F (bytes_eq a b)
+by_same a b F hit miss = go (bytes_eq a b) refl
   where
-    go : (c : Bool) → same_number a b ≡ c → F c
-    go true is = hit (same_eq a b is)
-    go false is = miss (λ e. let no : true ≡ false = sym (same_refl a) ∙ ap (same_number a) e ∙ is in cc)
+    go : (c : Bool) → bytes_eq a b ≡ c → F c
+    go true is = hit ((bytes_eq-Decides a b).0 is)
+    go false is = miss (λ e. let no : true ≡ false = sym (same_refl a) ∙ ap (bytes_eq a) e ∙ is in cc)
 
-pub not_same : (a b : List ℕ) → a ≢ b → same_number a b ≡ false
+pub not_same : (a b : List ℕ) → a ≢ b → bytes_eq a b ≡ false
 not_same a b ne = by_same a b (λ c. c ≡ false) (λ e. absurd (ne e)) (λ _. refl)
 
 -- what a list is, that begins with front and then r, where it ends with a

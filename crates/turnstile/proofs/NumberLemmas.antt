@@ -5,20 +5,21 @@ use mathlib.Core.Option.{some, some-injective, some-ne-none}
 use mathlib.Core.Path.{Path}
 use native.Mathlib.Decide.{dec_le}
 use lib.ListN.{get_elem?}
+use Rattle.std.specs.Prelude.{bytes_eq}
 use Rattle.turnstile.specs.declared.view.MadeEntry.{MadeEntry}
 use Rattle.turnstile.specs.declared.view.KnownPass.{KnownPass}
-use Rattle.turnstile.specs.Numbers.{same_number, places_from, Forbids, Each, NumbersDiffer, HasPlaces, TellsPasses, AreWhole, RanksCounted, PassHolds, IsPlaceOf}
+use Rattle.turnstile.specs.Numbers.{places_from, Forbids, Each, NumbersDiffer, HasPlaces, TellsPasses, AreWhole, RanksCounted, PassHolds, IsPlaceOf}
 use Rattle.turnstile.proofs.ListLemmas.{each_map, each_two, each_at, same_refl, not_same, by_same, snoc_split}
 
 module _ {O R : Type 0} where
-  pub places_snoc : (k : ℕ) (number : List ℕ) (log : List (MadeEntry O R)) (m : MadeEntry O R) → places_from k number (log ++ m ∷ []) ≡ places_from k number log ++ cond (same_number m.by number) ((k + length log) ∷ []) []
-  places_snoc k number [] m = ap (λ (z : ℕ). cond (same_number m.by number) (z ∷ []) []) (sym (add-zero k))
-  places_snoc k number (x ∷ xs) m = go (places_snoc (k + 1) number xs m ∙ ap (λ (z : ℕ). places_from (k + 1) number xs ++ cond (same_number m.by number) (z ∷ []) []) up) (same_number x.by number)
+  pub places_snoc : (k : ℕ) (number : List ℕ) (log : List (MadeEntry O R)) (m : MadeEntry O R) → places_from k number (log ++ m ∷ []) ≡ places_from k number log ++ cond (bytes_eq m.by number) ((k + length log) ∷ []) []
+  places_snoc k number [] m = ap (λ (z : ℕ). cond (bytes_eq m.by number) (z ∷ []) []) (sym (add-zero k))
+  places_snoc k number (x ∷ xs) m = go (places_snoc (k + 1) number xs m ∙ ap (λ (z : ℕ). places_from (k + 1) number xs ++ cond (bytes_eq m.by number) (z ∷ []) []) up) (bytes_eq x.by number)
     where
       up : k + 1 + length xs ≡ k + suc (length xs)
       up = omega arith
 
-      go : places_from (k + 1) number (xs ++ m ∷ []) ≡ places_from (k + 1) number xs ++ cond (same_number m.by number) ((k + suc (length xs)) ∷ []) [] → (b : Bool) → Path (List ℕ) (cond b (k ∷ places_from (k + 1) number (xs ++ m ∷ [])) (places_from (k + 1) number (xs ++ m ∷ []))) (cond b (k ∷ places_from (k + 1) number xs) (places_from (k + 1) number xs) ++ cond (same_number m.by number) ((k + suc (length xs)) ∷ []) [])
+      go : places_from (k + 1) number (xs ++ m ∷ []) ≡ places_from (k + 1) number xs ++ cond (bytes_eq m.by number) ((k + suc (length xs)) ∷ []) [] → (b : Bool) → Path (List ℕ) (cond b (k ∷ places_from (k + 1) number (xs ++ m ∷ [])) (places_from (k + 1) number (xs ++ m ∷ []))) (cond b (k ∷ places_from (k + 1) number xs) (places_from (k + 1) number xs) ++ cond (bytes_eq m.by number) ((k + suc (length xs)) ∷ []) [])
       go rest true = λ i. k ∷ rest i
       go rest false = rest
 
@@ -27,7 +28,7 @@ module _ {O R : Type 0} where
 
   pub places_own : (number : List ℕ) (log : List (MadeEntry O R)) (m : MadeEntry O R) → m.by ≡ number → places_from 0 number (log ++ m ∷ []) ≡ places_from 0 number log ++ length log ∷ []
   places_own number log m e = let z : 0 + length log ≡ length log = omega arith in
-      places_snoc 0 number log m ∙ (λ i. places_from 0 number log ++ cond ((ap (λ by. same_number by number) e ∙ same_refl number) i) (z i ∷ []) [])
+      places_snoc 0 number log m ∙ (λ i. places_from 0 number log ++ cond ((ap (λ by. bytes_eq by number) e ∙ same_refl number) i) (z i ∷ []) [])
 
   pub places_none : (k : ℕ) (number : List ℕ) (log : List (MadeEntry O R)) → Each (λ (m : MadeEntry O R). m.by ≢ number) log → places_from k number log ≡ []
   places_none k number [] a = refl
@@ -58,9 +59,9 @@ module _ {O R : Type 0} where
   pub places_has : (k : ℕ) (number : List ℕ) (log : List (MadeEntry O R)) (i : ℕ) (m : MadeEntry O R) → get_elem? log i ≡ some m → m.by ≡ number → (j : ℕ) × (get_elem? (places_from k number log) j ≡ some (k + i))
   places_has k number [] i m at is = absurd (some-ne-none m (sym at))
   places_has k number (x ∷ xs) zero m at is = let e : x.by ≡ number = ap (λ (y : MadeEntry O R). y.by) (some-injective x m at) ∙ is in
-      let here : same_number x.by number ≡ true = ap (λ by. same_number by number) e ∙ same_refl number in
+      let here : bytes_eq x.by number ≡ true = ap (λ by. bytes_eq by number) e ∙ same_refl number in
       (0, ap (λ b. get_elem? (cond b (k ∷ places_from (k + 1) number xs) (places_from (k + 1) number xs)) 0) here ∙ ap some (sym (add-zero k)))
-  places_has k number (x ∷ xs) (suc i) m at is = go (places_has (k + 1) number xs i m at is) (same_number x.by number)
+  places_has k number (x ∷ xs) (suc i) m at is = go (places_has (k + 1) number xs i m at is) (bytes_eq x.by number)
     where
       up : k + 1 + i ≡ k + suc i
       up = omega arith
@@ -134,7 +135,7 @@ module _ (count : List ℕ → ℕ) (number : List ℕ) (seated : ℕ) (is : cou
   born = number ++ seated ∷ []
 
   pub counted : List ℕ → ℕ
-  counted n = cond (same_number n born) 0 (cond (same_number n number) (seated + 1) (count n))
+  counted n = cond (bytes_eq n born) 0 (cond (bytes_eq n number) (seated + 1) (count n))
 
   pub fresh : (x : List ℕ) → RanksCounted count x → x ≢ born
   fresh x g e = let l : seated < count number = g number seated [] e in absurd (omega arith)
@@ -144,7 +145,7 @@ module _ (count : List ℕ → ℕ) (number : List ℕ) (seated : ℕ) (is : cou
 
   pub counted_born : counted born ≡ 0
   unfolding counted
-  counted_born = ap (λ b. cond b 0 (cond (same_number born number) (seated + 1) (count born))) (same_refl born)
+  counted_born = ap (λ b. cond b 0 (cond (bytes_eq born number) (seated + 1) (count born))) (same_refl born)
 
   pub counted_maker : counted number ≡ seated + 1
   unfolding counted
@@ -157,7 +158,7 @@ module _ (count : List ℕ → ℕ) (number : List ℕ) (seated : ℕ) (is : cou
   pub grows_more : (x : List ℕ) → RanksCounted count x → RanksCounted counted x
   unfolding counted
   grows_more x g front rank rest e =
-      by_same front born (λ b. rank < cond b 0 (cond (same_number front number) (seated + 1) (count front)))
+      by_same front born (λ b. rank < cond b 0 (cond (bytes_eq front number) (seated + 1) (count front)))
       (λ hit. let l : seated < count number = g number seated (rank ∷ rest) (e ∙ ap (λ f. f ++ rank ∷ rest) hit ∙ append_assoc number (seated ∷ []) (rank ∷ rest)) in absurd (omega arith))
       (λ _. let old : rank < count front = g front rank rest e in by_same front number (λ b. rank < cond b (seated + 1) (count front)) (λ hit. let same_count = ap count hit in omega arith) (λ _. old))
 

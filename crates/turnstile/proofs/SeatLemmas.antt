@@ -8,6 +8,7 @@ use Rattle.turnstile.specs.declared.machine.Entry.{Entry}
 use Rattle.turnstile.specs.declared.view.MadeEntry.{MadeEntry}
 use Rattle.turnstile.specs.declared.view.Stage.{Stage}
 use Rattle.turnstile.specs.declared.view.Stage.TheVariants.{Idle, Waiting, Served, Spent}
+use Rattle.turnstile.proofs.ListLemmas.{each_map}
 use Rattle.turnstile.specs.Rules.{entries_of, StartsWith, IsTrueNote, NotesTrue, NotesWithin, StageHolds, longer}
 use Rattle.atomic_table.proofs.Lists.{at_set}
 
@@ -54,22 +55,14 @@ module _ {O R : Type 0} where
       go false is = let l : length ys ≤ length xs = grind (arith, nat_tests) in (a, ([], sym (append-nil xs)), begins_longer log ys xs b a l)
 
   module _ (status : List (Entry O R) → ℕ) where
-    pub notes_append : (log : List (MadeEntry O R)) (notes more : List (ℕ × ℕ)) → NotesTrue status log notes → NotesTrue status log more → NotesTrue status log (notes ++ more)
-    notes_append log [] more a b = b
-    notes_append log (n ∷ ns) more a b = (a.0, notes_append log ns more a.1 b)
-
+    -- a note is true of every longer history
     pub notes_more : (log more : List (MadeEntry O R)) (notes : List (ℕ × ℕ)) → NotesTrue status log notes → NotesTrue status (log ++ more) notes
-    notes_more log more [] a = tt
-    notes_more log more (n ∷ ns) a = let below : n.0 ≤ length log = a.0.0 in
-        ((omega (arith, length-append log more), a.0.1 ∙ sym (ap (λ l. status (entries_of l)) (take-append-le n.0 log more below))), notes_more log more ns a.1)
+    notes_more log more notes = each_map (IsTrueNote status log) (IsTrueNote status (log ++ more)) notes (λ note is. let below : note.0 ≤ length log = is.0 in
+        (omega (arith, length-append log more), is.1 ∙ sym (ap (λ l. status (entries_of l)) (take-append-le note.0 log more below))))
 
+    -- a true note is of a length that the history has
     pub notes_below : (log : List (MadeEntry O R)) (notes : List (ℕ × ℕ)) → NotesTrue status log notes → NotesWithin (length log) notes
-    notes_below log [] a = tt
-    notes_below log (n ∷ ns) a = (a.0.0, notes_below log ns a.1)
-
-    pub notes_snoc : (log : List (MadeEntry O R)) (notes : List (ℕ × ℕ)) (n : ℕ × ℕ) → NotesTrue status log notes → IsTrueNote status log n → NotesTrue status log (notes ++ n ∷ [])
-    notes_snoc log [] n a b = (b, tt)
-    notes_snoc log (x ∷ xs) n a b = (a.0, notes_snoc log xs n a.1 b)
+    notes_below log notes = each_map (IsTrueNote status log) (λ note. note.0 ≤ length log) notes (λ note is. is.0)
 
   -- the tickets from `drawn` on are given out, or the slot goes out, or the history grows, or a turn ends; the seat j has no part in it
   pub knows_drawn : (drawn turn : ℕ) (out : Bool) (log : List (MadeEntry O R)) (owner owner' : ℕ → ℕ) (j : ℕ) (seen : List (MadeEntry O R)) → ((u : ℕ) → u < drawn → owner' u ≡ owner u)

@@ -2,7 +2,7 @@
 use Rattle.std.proofs.Common.{◌≡◌, ◌≢◌, ℕ, cond, eqb, eq-eqb, ne_eqb, List, [], ◌∷◌, ◌++◌, length, set, sym, refl, ap, ◌∙◌, subst, ⊎_elim, length-set}
 use mathlib.Core.Option.{some}
 use lib.ListN.{get_elem?}
-use Rattle.std.specs.Prelude.{Option}
+use Rattle.std.specs.Prelude.{Option, bytes_eq}
 use Rattle.atomic_table.specs.Table.{State, Splits, Joins}
 use Rattle.atomic_table.proofs.Lists.{set_else}
 use Rattle.turnstile.specs.declared.machine.Entry.{Entry}
@@ -11,11 +11,11 @@ use Rattle.turnstile.specs.declared.view.MadeEntry.{MadeEntry}
 use Rattle.turnstile.specs.declared.view.KnownPass.{KnownPass}
 use Rattle.turnstile.specs.declared.view.PassView.{PassView}
 use Rattle.turnstile.specs.declared.view.Stage.TheVariants.{Idle}
-use Rattle.turnstile.specs.Numbers.{same_number, Each, NumbersDiffer, RanksCounted, PassHolds}
-use Rattle.turnstile.specs.Rules.{SeatHolds, TurnRule, known_self, known_passes, passes_known, with_new_seat, new_seat, joined, spent_view}
+use Rattle.turnstile.specs.Numbers.{Each, NumbersDiffer, RanksCounted, PassHolds}
+use Rattle.turnstile.specs.Rules.{IsTrueNote, SeatHolds, TurnRule, known_self, known_passes, passes_known, with_new_seat, new_seat, joined, spent_view}
 use Rattle.turnstile.proofs.ListLemmas.{each_map, each_two, each_append, at_end, same_refl, not_same}
 use Rattle.turnstile.proofs.NumberLemmas.{places_none, apart_from, born, counted, fresh, counted_born, counted_maker, counted_other, grows_more, grows_born}
-use Rattle.turnstile.proofs.SeatLemmas.{seats, notes_append}
+use Rattle.turnstile.proofs.SeatLemmas.{seats}
 
 differ_append : (ps qs : List KnownPass) → NumbersDiffer ps → NumbersDiffer qs → Each (λ (p : KnownPass). Each (λ (q : KnownPass). q.number ≢ p.number) qs) ps → NumbersDiffer (ps ++ qs)
 differ_append [] qs a b c = b
@@ -59,7 +59,7 @@ module _ {X O R : Type 0} (stands : X → List (Entry O R) → Type 0) (status :
   splits id v idle s r at =
       let ok = r.each_seat id v at in let differ = subst (λ z. NumbersDiffer (known_passes z (known_self v) v.ended)) idle ok.differ in let knows = subst (λ z. Each (PassHolds r.keeper r.count r.log id) (known_passes z (known_self v) v.ended)) idle ok.known in
       let n = v.number in let is : r.count n ≡ v.seated = knows.0.seated in let k : ℕ = length s.views in
-      let keeper' : List ℕ → ℕ = λ x. cond (same_number x (born r.count n v.seated is)) k (r.keeper x) in let count' : List ℕ → ℕ = counted r.count n v.seated is in
+      let keeper' : List ℕ → ℕ = λ x. cond (bytes_eq x (born r.count n v.seated is)) k (r.keeper x) in let count' : List ℕ → ℕ = counted r.count n v.seated is in
       let old : (x : List ℕ) → RanksCounted r.count x → keeper' x ≡ r.keeper x = λ x g. ap (λ b. cond b k (r.keeper x)) (not_same x (born r.count n v.seated is) (fresh r.count n v.seated is x g)) in
       let stays : (j : ℕ) (ps : List KnownPass) → Each (λ (p : KnownPass). p.number ≢ n) ps → Each (PassHolds r.keeper r.count r.log j) ps → Each (PassHolds keeper' count' r.log j) ps =
       (λ j ps apart known. each_two (λ (p : KnownPass). p.number ≢ n) (PassHolds r.keeper r.count r.log j) (PassHolds keeper' count' r.log j) ps
@@ -124,7 +124,7 @@ module _ {X O R : Type 0} (stands : X → List (Entry O R) → Type 0) (status :
         stage = ok.stage;
         seen = ok.seen;
         told = ok'.seen;
-        notes = notes_append status r.log v.notes w.notes ok.notes ok'.notes;
+        notes = each_append (IsTrueNote status r.log) v.notes w.notes ok.notes ok'.notes;
         differ = subst (λ z. NumbersDiffer (known_passes z (known_self both) both.ended)) (sym idle) apart;
         known = subst (λ z. Each (PassHolds keeper' r.count r.log id) (known_passes z (known_self both) both.ended)) (sym idle) known;
       })

@@ -2,7 +2,7 @@
 use Rattle.std.proofs.Common.{◌≡◌, ℕ, ◌+◌, ◌-◌, ◌*◌, ◌%◌, ◌^◌, ◌<◌, ◌≤◌, Bool, true, false, List, [], ◌∷◌, ◌++◌, length, get_or, set, eqb, sym, refl, ap, ◌∙◌, subst, ⊎_elim, arith, length-append, length-set, get_or-set_same, get_or-set_other, mod-eq_of_lt}
 use mathlib.Core.Logic.{dite}
 use mathlib.Core.Path.{Path}
-use mathlib.Core.Option.{none, some, some-injective}
+use mathlib.Core.Option.{none, some}
 use native.Mathlib.Decide.{ℕ_discrete}
 use prog.Atomic.{either}
 use lib.ListN.{get_elem?}
@@ -17,11 +17,11 @@ use Rattle.turnstile.specs.declared.held.Held.{Held}
 use Rattle.turnstile.specs.declared.view.MadeEntry.{MadeEntry}
 use Rattle.turnstile.specs.declared.view.PassView.{PassView}
 use Rattle.turnstile.specs.declared.view.Stage.TheVariants.{Idle, Waiting, Served}
-use Rattle.turnstile.specs.Rules.{entry_in, entries_of, made_by, StageHolds, SeatHolds, StandsWith, TurnRule, SeatState, drew, looked, posted, advanced, glanced, first_view, known_self, known_passes, passes_known, longer, settled}
+use Rattle.turnstile.specs.Rules.{entry_in, entries_of, made_by, IsTrueNote, StageHolds, SeatHolds, StandsWith, TurnRule, SeatState, drew, looked, posted, advanced, glanced, first_view, known_self, known_passes, passes_known, longer, settled}
 use Rattle.turnstile.specs.Numbers.{Each, NumbersDiffer, TellsPasses, RanksCounted, PassHolds, places_from}
 use Rattle.turnstile.proofs.ListLemmas.{each_append, at_end}
 use Rattle.turnstile.proofs.NumberLemmas.{places_own, tells, known_other, apart_from}
-use Rattle.turnstile.proofs.SeatLemmas.{put, put_here, put_else, seats, starts_more, longer_starts, starts_length, starts_same, notes_more, notes_below, notes_snoc, knows_drawn, knows_apart, knows_advanced}
+use Rattle.turnstile.proofs.SeatLemmas.{put, put_here, put_else, seats, starts_more, longer_starts, starts_length, starts_same, notes_more, notes_below, knows_drawn, knows_apart, knows_advanced}
 
 module _ {X O R : Type 0} (stands : X → List (Entry O R) → Type 0) (status : List (Entry O R) → ℕ) (legal : List (Entry O R) → Type 0) where
   abbrev V : Type 0
@@ -266,7 +266,7 @@ module _ {X O R : Type 0} (stands : X → List (Entry O R) → Type 0) (status :
     w,
     keeps,
     tt,
-    still s r 2 id me.1 w record { stage = ok.stage; seen = ok.seen; told = ok.told; notes = notes_snoc status r.log me.0.notes note ok.notes (omega arith, sym (ap (λ l. status (entries_of l)) (take-length r.log))); differ = ok.differ; known = ok.known },
+    still s r 2 id me.1 w record { stage = ok.stage; seen = ok.seen; told = ok.told; notes = each_append (IsTrueNote status r.log) me.0.notes (note ∷ []) ok.notes ((omega arith, sym (ap (λ l. status (entries_of l)) (take-length r.log))), tt); differ = ok.differ; known = ok.known },
     (length r.log, status (entries_of r.log), r.board_is, r.low, r.short, starts_length r.log me.0.seen ok.seen, notes_below status r.log me.0.notes ok.notes, refl),
   )
 

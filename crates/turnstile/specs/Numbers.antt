@@ -1,21 +1,14 @@
 -- The numbers of passes, and which entries are whose.
-use Rattle.std.specs.Prelude.{◌≡◌, ◌≢◌, ℕ, ◌+◌, ◌<◌, ◌≤◌, Bool, true, false, ◌&&◌, eqb, cond, List, [], ◌∷◌, ◌++◌}
+use Rattle.std.specs.Prelude.{◌≡◌, ◌≢◌, ℕ, ◌+◌, ◌<◌, ◌≤◌, bytes_eq, cond, List, [], ◌∷◌, ◌++◌}
 use mathlib.Core.Option.{some}
 use lib.ListN.{get_elem?}
 use Rattle.turnstile.specs.declared.view.MadeEntry.{MadeEntry}
 use Rattle.turnstile.specs.declared.view.KnownPass.{KnownPass}
 
--- the two numbers are the same
-abbrev pub same_number : List ℕ → List ℕ → Bool
-same_number [] [] = true
-same_number [] (y ∷ ys) = false
-same_number (x ∷ xs) [] = false
-same_number (x ∷ xs) (y ∷ ys) = eqb x y && same_number xs ys
-
 -- the places of the entries with this number, where the first entry has the place k
 abbrev pub places_from : {O R : Type 0} → ℕ → List ℕ → List (MadeEntry O R) → List ℕ
 places_from k number [] = []
-places_from k number (m ∷ ms) = cond (same_number m.by number) (k ∷ places_from (k + 1) number ms) (places_from (k + 1) number ms)
+places_from k number (m ∷ ms) = cond (bytes_eq m.by number) (k ∷ places_from (k + 1) number ms) (places_from (k + 1) number ms)
 
 -- the number begins with that of the pass, followed by a rank that it did not give
 abbrev pub Forbids : KnownPass → List ℕ → Type 0

@@ -15,8 +15,7 @@ use Rattle.turnstile.specs.declared.view.Stage.TheVariants.{Idle, Waiting, Serve
 
 -- each note is of a length of at most n
 abbrev pub NotesWithin : ℕ → List (ℕ × ℕ) → Type 0
-NotesWithin n [] = Unit {0}
-NotesWithin n (x ∷ xs) = (x.0 ≤ n) × NotesWithin n xs
+NotesWithin n = Each (λ (note : ℕ × ℕ). note.0 ≤ n)
 
 -- the passes that a seat knows: its own and those that were joined into it; none once it is spent
 abbrev pub known_passes : Stage → KnownPass → List KnownPass → List KnownPass
@@ -48,8 +47,7 @@ module _ {O R : Type 0} where
 
   -- every note is true of the history
   abbrev pub NotesTrue : (List (Entry O R) → ℕ) → List (MadeEntry O R) → List (ℕ × ℕ) → Type 0
-  NotesTrue status log [] = Unit {0}
-  NotesTrue status log (n ∷ ns) = IsTrueNote status log n × NotesTrue status log ns
+  NotesTrue status log = Each (IsTrueNote status log)
 
   -- the first pass: its number is empty, and so is all that it knows
   abbrev pub first_view : PassView O R

@@ -34,8 +34,9 @@ module _ {O R : Type 0} where
     pub kept : after ≡ record before { seen = after.seen; mine = before.mine ++ place ∷ [] }
     -- the entries of each known pass stand at just its places, and no number that it did not give is there
     pub known : TellsPasses after.seen (passes_known after)
-    -- each note is true of what stands before this entry, and so of the whole
-    pub notes : NotesTrue status (before.seen ++ between) before.notes
+    -- each note is true of what stands before this entry, and of the whole
+    pub notes_before : NotesTrue status (before.seen ++ between) before.notes
+    pub notes : NotesTrue status after.seen before.notes
 
   -- a call was refused: nothing of the pass changed but what it has seen
   pub record Sees (legal : List (Entry O R) → Type 0) (status : List (Entry O R) → ℕ) (before after : PassView O R) : Type 0 where

@@ -1,12 +1,11 @@
 //! The calls of a turn.
-ghost use Rattle.std.specs.Prelude.{◌≡◌, ◌≢◌, ℕ, ◌<◌, ◌≤◌, ◌+◌, ◌*◌, ◌^◌, ◌++◌, ◌∷◌, [], List, length, Option, Some, None, IfOk, IfErr, OnErr, MatchResult, MatchBool};
+ghost use Rattle.std.specs.Prelude.{◌≡◌, ◌<◌, ◌≤◌, ◌+◌, ◌*◌, ◌^◌, ◌++◌, ◌∷◌, [], length, Option, Some, None, IfOk, IfErr, OnErr};
 ghost use Rattle.turnstile.specs.declared.view.Stage.TheVariants.{Idle, Waiting, Served};
 ghost use Rattle.turnstile.specs.declared.held.Held.{Held};
 ghost use Rattle.turnstile.specs.declared.machine.Entry.{Entry};
-ghost use Rattle.turnstile.specs.Rules.{GotTurn, Begun, Carries, StandsWith, entries_of, made_by, StartsWith, NotesTrue, NotesWithin, first_view, grown, passes_known, with_new_seat, new_seat, joined, Settled};
+ghost use Rattle.turnstile.specs.Rules.{GotTurn, Begun, Carries, entries_of, NotesWithin, first_view, grown, passes_known, with_new_seat, new_seat, joined, Settled};
 ghost use Rattle.turnstile.specs.Entries.{Refuses, entry};
 ghost use Rattle.turnstile.specs.Numbers.{TellsPasses};
-ghost use Rattle.turnstile.specs.declared.view.MadeEntry.{MadeEntry};
 ghost use Rattle.turnstile.specs.Turns.{view, IsPassOf, Enters, Sees, Closes};
 
 use crate::held::{Entered, Held};

@@ -53,5 +53,9 @@ pub trait Machine: Drop {
         ensures value { (history : List (Entry Self.Op Self.Outcome)) → stands self.now history → result ≡ status_after history }
         ensures below { result < 2 ^ 43 };
 
+    /// The empty history is legal.
+    ghost legal_empty: { legal [] };
+
+    /// What a machine stands for is legal.
     ghost legal_if: { (machine : Self) (history : List (Entry Self.Op Self.Outcome)) → stands machine history → legal history };
 }

@@ -4,7 +4,7 @@ mod callers;
 
 use crate::{CallFault, Entry, Turn};
 use adder::Adder;
-use callers::{add_and_close, add_both};
+use callers::{add_and_close, add_on_threads};
 use std::test::Fail;
 
 // Whether each outcome is the one before it and its operation added.
@@ -46,7 +46,7 @@ fn two_threads_add(rt: HostRuntime) -> Result<(), Fail> {
     let Ok((turn, pass)) = Turn::new(rt.alloc(), Adder { total: 0 }) else {
         panic!(rt; "a turn")
     };
-    let pass = add_both(&rt, &turn, pass, 1000);
+    let pass = add_on_threads(&rt, &turn, pass, 1, 1000);
     let (adder, history) = turn.close(&rt, pass);
     assert!(rt; adder.total == 999_000 && history.items().len() == 2000);
     assert!(rt; are_running_sums(history.items()));

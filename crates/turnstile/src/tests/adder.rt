@@ -24,6 +24,8 @@ impl Machine for Adder {
 
     ghost status_after = { λ h. 0 };
 
+    ghost legal_empty = { tt };
+
     ghost legal_if = { λ m h st. st.0 };
 
     fn apply(&mut self, op: &u64) -> Result<(u64, u64), NoMemory> {

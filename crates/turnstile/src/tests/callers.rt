@@ -32,11 +32,12 @@ pub fn add_all<W: Wait>(
     pass
 }
 
-/// Two threads add.
-pub fn add_both<R: Threads + Wait + Sync>(
+/// Two to the power of `halvings` threads add, each with a pass of its own, which are joined again.
+pub fn add_on_threads<R: Threads + Wait + Sync>(
     rt: &R,
     turn: &Turn<Adder>,
     mut pass: Pass<Adder>,
+    halvings: u32,
     count: u64,
 ) -> Pass<Adder>
     requires { IsPassOf turn.now pass }
@@ -44,101 +45,21 @@ pub fn add_both<R: Threads + Wait + Sync>(
     ensures joined { HasJoinedAll (view pass) (view result) }
 {
     joined_passes_are_whole::<Adder>();
-    let other = turn.seat(&mut pass);
-    let (mut one, two) = join(
-        rt,
-        || -> Pass<Adder>
-            requires { IsPassOf turn.now pass }
-            ensures { IsPassOf turn.entry.now result × HasJoinedAll (view pass) (view result) }
-        { add_all(rt, turn, pass, count) },
-        || -> Pass<Adder>
-            requires { IsPassOf turn.now other }
-            ensures { IsPassOf turn.entry.now result × HasJoinedAll (view other) (view result) }
-        { add_all(rt, turn, other, count) },
-    );
-    turn.join(&mut one, two);
-    one
-}
-
-/// Four threads add.
-pub fn add_four<R: Threads + Wait + Sync>(
-    rt: &R,
-    turn: &Turn<Adder>,
-    mut pass: Pass<Adder>,
-    count: u64,
-) -> Pass<Adder>
-    requires { IsPassOf turn.now pass }
-    ensures pass { IsPassOf turn.now result }
-    ensures joined { HasJoinedAll (view pass) (view result) }
-{
-    joined_passes_are_whole::<Adder>();
+    if halvings == 0 {
+        return add_all(rt, turn, pass, count);
+    }
+    let fewer = halvings - 1;
     let other = turn.seat(&mut pass);
     let (mut one, two) = join(
         rt,
         || -> Pass<Adder>
             requires { IsSync R.row × IsPassOf turn.now pass }
             ensures { IsPassOf turn.entry.now result × HasJoinedAll (view pass) (view result) }
-        { add_both(rt, turn, pass, count) },
+        { add_on_threads(rt, turn, pass, fewer, count) },
         || -> Pass<Adder>
             requires { IsSync R.row × IsPassOf turn.now other }
             ensures { IsPassOf turn.entry.now result × HasJoinedAll (view other) (view result) }
-        { add_both(rt, turn, other, count) },
-    );
-    turn.join(&mut one, two);
-    one
-}
-
-/// Eight threads add.
-pub fn add_eight<R: Threads + Wait + Sync>(
-    rt: &R,
-    turn: &Turn<Adder>,
-    mut pass: Pass<Adder>,
-    count: u64,
-) -> Pass<Adder>
-    requires { IsPassOf turn.now pass }
-    ensures pass { IsPassOf turn.now result }
-    ensures joined { HasJoinedAll (view pass) (view result) }
-{
-    joined_passes_are_whole::<Adder>();
-    let other = turn.seat(&mut pass);
-    let (mut one, two) = join(
-        rt,
-        || -> Pass<Adder>
-            requires { IsSync R.row × IsPassOf turn.now pass }
-            ensures { IsPassOf turn.entry.now result × HasJoinedAll (view pass) (view result) }
-        { add_four(rt, turn, pass, count) },
-        || -> Pass<Adder>
-            requires { IsSync R.row × IsPassOf turn.now other }
-            ensures { IsPassOf turn.entry.now result × HasJoinedAll (view other) (view result) }
-        { add_four(rt, turn, other, count) },
-    );
-    turn.join(&mut one, two);
-    one
-}
-
-/// Sixteen threads add.
-pub fn add_sixteen<R: Threads + Wait + Sync>(
-    rt: &R,
-    turn: &Turn<Adder>,
-    mut pass: Pass<Adder>,
-    count: u64,
-) -> Pass<Adder>
-    requires { IsPassOf turn.now pass }
-    ensures pass { IsPassOf turn.now result }
-    ensures joined { HasJoinedAll (view pass) (view result) }
-{
-    joined_passes_are_whole::<Adder>();
-    let other = turn.seat(&mut pass);
-    let (mut one, two) = join(
-        rt,
-        || -> Pass<Adder>
-            requires { IsSync R.row × IsPassOf turn.now pass }
-            ensures { IsPassOf turn.entry.now result × HasJoinedAll (view pass) (view result) }
-        { add_eight(rt, turn, pass, count) },
-        || -> Pass<Adder>
-            requires { IsSync R.row × IsPassOf turn.now other }
-            ensures { IsPassOf turn.entry.now result × HasJoinedAll (view other) (view result) }
-        { add_eight(rt, turn, other, count) },
+        { add_on_threads(rt, turn, other, fewer, count) },
     );
     turn.join(&mut one, two);
     one
@@ -156,6 +77,6 @@ pub fn add_and_close<R: Threads + Wait + Sync>(
         × ((place : ℕ) → place < length log → (i : ℕ) × IsPlaceOf passes place i × ((j : ℕ) → IsPlaceOf passes place j → j ≡ i)) }
 {
     joined_passes_are_whole::<Adder>();
-    let pass = add_sixteen(rt, &turn, pass, count);
+    let pass = add_on_threads(rt, &turn, pass, 4, count);
     turn.close(rt, pass)
 }
