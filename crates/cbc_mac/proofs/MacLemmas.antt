@@ -1,6 +1,6 @@
 -- A code in the making.
-use Rattle.std.proofs.Common.{◌≡◌, None, Option, Some, ℕ, zero, suc, ◌+◌, ◌-◌, ◌*◌, ◌/◌, ◌%◌, ◌<◌, ◌≤◌, List, [], ◌∷◌, ◌++◌, length, take, drop, replicate, set, refl, sym, subst, ap, ◌∙◌, arith}
-use Rattle.std.proofs.lemmas.List.{append-nil, length-append, length-drop, drop-drop, drop_all, drop-append-le, length-set, length-replicate, length-take-le, take_more_set, take-append-le, take_all, take_at, take-append-drop, drop_at}
+use Rattle.std.proofs.Common.{take-add, ◌≡◌, None, Option, Some, ℕ, zero, suc, ◌+◌, ◌-◌, ◌*◌, ◌/◌, ◌%◌, ◌<◌, ◌≤◌, List, [], ◌∷◌, ◌++◌, length, take, drop, replicate, set, refl, sym, subst, ap, ◌∙◌, arith}
+use Rattle.std.proofs.lemmas.List.{append_assoc, append-nil, length-append, length-drop, drop-drop, drop_all, drop-append-le, length-set, length-replicate, length-take-le, take_more_set, take-append-le, take_all, take_at, take-append-drop, drop_at}
 use Rattle.pad_words.specs.Bytes.{exclusive_or, zero_block}
 use Rattle.des_core.specs.Des.{des_bytes, des_back_bytes}
 use Rattle.cbc_mac.specs.Modes.{blocks, blocks_of, cbc, chain, last_or, padded}
@@ -94,9 +94,48 @@ held-length : (key chained held message : List ℕ) → HasRead key chained held
 held-length key chained held message read =
     ap length read.held_is ∙ (length-drop (8 * (length message / 8)) message ∙ omega arith)
 
+-- how many bytes a code in the making holds
+pub kept_count : (left chained block message : List ℕ) (count : ℕ) → IsKept left chained block count message
+    → count ≡ length message % 8
+kept_count left chained block message count kept =
+    let eight = kept.block_length in
+    let below = kept.short in
+    sym (length-take-le count block (omega arith)) ∙ held-length left chained (take count block) message kept.read
+
+-- a whole block more, where none is begun
+pub block_fed : (left chained block message fed sealed : List ℕ) (count : ℕ) → length message % 8 ≡ 0 → length fed ≡ 8
+    → sealed ≡ des_bytes left (exclusive_or fed chained) → IsKept left chained block count message
+    → IsKept left sealed block count (message ++ fed)
+block_fed left chained block message fed sealed count whole eight is kept =
+    let none : count ≡ 0 = kept_count left chained block message count kept ∙ whole in
+    let P : ℕ → Type 0 = λ n. IsKept left chained block n message in
+    let Q : ℕ → Type 0 = λ n. IsKept left sealed block n (message ++ fed) in
+    let empty = subst P none kept in
+    let now : IsKept left sealed block 0 (message ++ fed) = record {
+      left_length = kept.left_length;
+      block_length = kept.block_length;
+      short = omega arith;
+      read = read_block left chained [] message fed sealed empty.read eight is;
+    } in
+    subst Q (sym none) now
+
+-- a block behind the first blocks of some bytes
+more_of-blocks : (bytes : List ℕ) (i : ℕ) → take (8 * i) bytes ++ take 8 (drop (8 * i) bytes) ≡ take (8 * (i + 1)) bytes
+more_of-blocks bytes i =
+    let count : 8 * i + 8 ≡ 8 * (i + 1) = omega arith in
+    sym (take-add (8 * i) 8 bytes) ∙ ap (λ n. take n bytes) count
+
 -- what is seen is the same where each part is
 same_fed : (a b : Fed) → a.kind ≡ b.kind → a.key ≡ b.key → a.message ≡ b.message → a ≡ b
 same_fed a b kind key message = λ i. record { kind = kind i; key = key i; message = message i }
+
+-- what is seen of a code to which a block more is fed
+pub more_bytes : (kind : MacKind) (key message bytes : List ℕ) (i : ℕ)
+    → let before : Fed = record { kind = kind; key = key; message = (message ++ take (8 * i) bytes) ++ take 8 (drop (8 * i) bytes) } in
+    let after : Fed = record { kind = kind; key = key; message = message ++ take (8 * (i + 1)) bytes } in before ≡ after
+more_bytes kind key message bytes i =
+    same_fed _ _ refl refl
+    (append_assoc message (take (8 * i) bytes) (take 8 (drop (8 * i) bytes)) ∙ ap (λ xs. message ++ xs) (more_of-blocks bytes i))
 
 -- what is seen of the fields
 abbrev pub IsFed : Fed → List ℕ → Option (List ℕ) → List ℕ → Type 0

@@ -41,6 +41,11 @@ last_or none (block ∷ rest) = last_or block rest
 abbrev pub chain : (List ℕ → List ℕ) → List (List ℕ) → List ℕ
 chain encrypt blocks = last_or zero_block (cbc encrypt zero_block blocks)
 
+-- a block by triple DES in a direction
+abbrev pub tdea_block : Direction → List ℕ → List ℕ → List ℕ
+tdea_block way.Encrypt key block = tdea_bytes key block
+tdea_block way.Decrypt key block = tdea_back_bytes key block
+
 -- electronic codebook of triple DES in a direction
 abbrev pub tdea_ecb : Direction → List ℕ → List (List ℕ) → List (List ℕ)
 tdea_ecb way.Encrypt key blocks = ecb (tdea_bytes key) blocks

@@ -1,6 +1,7 @@
 ghost use Rattle.std.specs.Prelude.{◌≡◌, ◌+◌, ◌-◌, ◌≤◌, ◌++◌, length, replicate, take, drop};
 ghost use Rattle.pad_words.specs.Bytes.{exclusive_or};
 
+use des_core::block_at;
 use pad_words::Block;
 
 /// The exclusive or of two blocks.
@@ -18,6 +19,39 @@ pub fn put_block(bytes: &mut [u8], at: usize, block: Block)
     ensures { bytes.new ≡ take at bytes.old ++ block.0 ++ drop (at + 8) bytes.old }
 {
     bytes[at..at + 8].copy_from_slice(&block.0);
+}
+
+/// Three blocks in a row.
+#[derive(Clone, Copy)]
+pub struct ThreeBlocks {
+    pub first: Block,
+    pub second: Block,
+    pub third: Block,
+}
+
+/// The three blocks from `at` on.
+pub fn three_at(bytes: &[u8], at: usize) -> ThreeBlocks
+    requires { at + 24 ≤ length bytes.now }
+    ensures first { result.first.0 ≡ take 8 (drop at bytes.now) }
+    ensures second { result.second.0 ≡ take 8 (drop (at + 8) bytes.now) }
+    ensures third { result.third.0 ≡ take 8 (drop (at + 16) bytes.now) }
+{
+    ThreeBlocks {
+        first: block_at(bytes, at),
+        second: block_at(bytes, at + 8),
+        third: block_at(bytes, at + 16),
+    }
+}
+
+/// Writes three blocks over the 24 bytes from `at` on.
+pub fn put_three(bytes: &mut [u8], at: usize, blocks: ThreeBlocks)
+    requires { at + 24 ≤ length bytes.old }
+    ensures { let three = blocks.first.0 ++ blocks.second.0 ++ blocks.third.0 in
+        bytes.new ≡ take at bytes.old ++ three ++ drop (at + 24) bytes.old }
+{
+    put_block(bytes, at, blocks.first);
+    put_block(bytes, at + 8, blocks.second);
+    put_block(bytes, at + 16, blocks.third);
 }
 
 /// The first `count` bytes, and the padding byte behind them.

@@ -2,6 +2,7 @@ ghost use Rattle.std.specs.Prelude.{◌≡◌, ◌++◌, ◌∷◌, [], List, �
 ghost use Rattle.std.specs.Coded.{coded_list, coded_ℕ};
 ghost use base.Fml.{ftrue};
 
+use pad_words::Block;
 use std::marker::Model;
 
 /// The bytes of a message, as contracts alone see them: the value keeps none.
@@ -27,5 +28,16 @@ impl Message {
         ensures { result.bytes ≡ self.now.bytes ++ _byte.now ∷ [] }
     {
         Message {}
+    }
+
+    /// These bytes and those of a block.
+    pub fn then_block(&self, block: Block) -> Message
+        ensures { result.bytes ≡ self.now.bytes ++ block.0 }
+    {
+        let mut message = self.then(&block.0[0]);
+        for i in 1..8 {
+            message = message.then(&block.0[i]);
+        }
+        message
     }
 }

@@ -28,6 +28,10 @@ take-bits_of a b n = rw bits_of-add (take_at _ _ a (length-bits_of a _))
 pub drop-bits_of : (a b n : ℕ) → drop a (bits_of (a + b) n) ≡ bits_of b n
 drop-bits_of a b n = rw bits_of-add (drop_at _ _ a (length-bits_of a _))
 
+-- bits in the middle are those of the shifted number
+pub part-bits_of : (a b c n : ℕ) → take b (drop a (bits_of (a + (b + c)) n)) ≡ bits_of b (n / 2 ^ c)
+part-bits_of a b c n = ap (take b) (drop-bits_of a (b + c) n) ∙ take-bits_of b c n
+
 pub bit_at-mod : (n k i : ℕ) → i < k → bit_at (n % 2 ^ k) i ≡ bit_at n i
 bit_at-mod n k i below =
     sym (bit_at_cat_low (n / 2 ^ k) k (n % 2 ^ k) i below) ∙ ap (λ m. bit_at m i) (shr_split n k)

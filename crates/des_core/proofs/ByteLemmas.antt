@@ -147,7 +147,7 @@ bits_of-number_from (b ∷ bs) width n are =
     ∙ (bits_of-number_from bs (width + 1) (2 * n + b) are.1
     ∙ (ap (λ x. x ++ bs) push ∙ append_assoc (bits_of width n) (b ∷ []) bs))
 
-bits_of-number_of : (bits : List ℕ) (width : ℕ) → length bits ≡ width → AreBits bits
+pub bits_of-number_of : (bits : List ℕ) (width : ℕ) → length bits ≡ width → AreBits bits
     → bits_of width (number_of bits) ≡ bits
 unfolding number_of bits_of
 bits_of-number_of bits width long are =
@@ -186,7 +186,7 @@ number_from-lt (b ∷ bs) n m are below =
     let rest = number_from-lt bs (2 * n + b) (2 * m) are.1 next in
     rw (power, ← product) rest
 
-number_of-lt : (bits : List ℕ) → AreBits bits → length bits ≡ 8 → number_of bits < 256
+pub number_of-lt : (bits : List ℕ) → AreBits bits → length bits ≡ 8 → number_of bits < 256
 unfolding number_of
 number_of-lt bits are eight =
     let power : 2 ^ length bits ≡ 256 = rw eight refl in

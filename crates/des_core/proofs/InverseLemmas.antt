@@ -121,13 +121,13 @@ final_after_initial : bits_by_table final_permutation initial_permutation ≡ ra
 unfolding bits_by_table
 final_after_initial = refl
 
-initial_undoes_final : (bits : List ℕ) → length bits ≡ 64
+pub initial_undoes_final : (bits : List ℕ) → length bits ≡ 64
     → bits_by_table initial_permutation (bits_by_table final_permutation bits) ≡ bits
 initial_undoes_final bits long =
     bits_by_table-bits_by_table initial_permutation final_permutation bits refl
     ∙ (ap (λ table. bits_by_table table bits) initial_after_final ∙ bits_by_table-in_order bits 64 long)
 
-final_undoes_initial : (bits : List ℕ) → length bits ≡ 64
+pub final_undoes_initial : (bits : List ℕ) → length bits ≡ 64
     → bits_by_table final_permutation (bits_by_table initial_permutation bits) ≡ bits
 final_undoes_initial bits long =
     bits_by_table-bits_by_table final_permutation initial_permutation bits refl
@@ -161,7 +161,7 @@ des-des_back key block long =
     ap (λ ks. output_block ks (output_block (reverse (round_keys key)) block)) (sym (reverse-reverse (round_keys key)))
     ∙ output_block-output_block (reverse (round_keys key)) block long
 
-AreBits-bits_by_table : (table bits : List ℕ) → AreBits bits → AreBits (bits_by_table table bits)
+pub AreBits-bits_by_table : (table bits : List ℕ) → AreBits bits → AreBits (bits_by_table table bits)
 unfolding bits_by_table
 AreBits-bits_by_table [] bits are = tt
 AreBits-bits_by_table (place ∷ places) bits are = (AreBits-get_or bits (place - 1) are, AreBits-bits_by_table places bits are)

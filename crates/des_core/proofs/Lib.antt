@@ -1,7 +1,12 @@
 pub mod BitLemmas
 pub mod TableLemmas
-pub mod SelectionLemmas
+pub mod JoinedLemmas
+pub mod ZippedLemmas
 pub mod RoundLemmas
+pub mod GroupLemmas
+pub mod ExchangeLemmas
 pub mod ByteLemmas
 pub mod InverseLemmas
+pub mod PermutedLemmas
+pub mod CipherFunctionLemmas
 pub mod TripleLemmas

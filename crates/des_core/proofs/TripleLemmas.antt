@@ -1,5 +1,6 @@
 -- Triple DES undoes itself, and under one key of eight bytes it is DES.
-use Rattle.std.proofs.Common.{◌≡◌, ℕ, zero, suc, ◌+◌, ◌<◌, ◌≤◌, List, [], ◌∷◌, ◌++◌, length, take, drop, get_or, refl, sym, ap, ◌∙◌, arith}
+use Rattle.std.proofs.Common.{Bool, false, if◌then◌else◌, nat_lt, true, ◌≡◌, ℕ, zero, suc, ◌+◌, ◌<◌, ◌≤◌, List, [], ◌∷◌, ◌++◌, length, take, drop, get_or, map, refl, sym, ap, ◌∙◌, arith}
+use Rattle.std.proofs.lemmas.Grind.{common_steps}
 use Rattle.std.specs.List.{All}
 use Rattle.std.proofs.lemmas.List.{append_assoc, drop-drop, drop_all, length-drop, length-take-le, take_all, take-append-drop}
 use Rattle.std.proofs.Math.Seq.{take-append-add}
@@ -10,6 +11,10 @@ use Rattle.des_core.specs.Des.{des, des_back, des_bytes, des_back_bytes}
 use Rattle.des_core.specs.TripleDes.{first_key, second_key, third_key, tdea_bytes, tdea_back_bytes}
 use Rattle.des_core.proofs.ByteLemmas.{AreBits, AreBits-bits_of_bytes, bytes_of_bits-lt, length-bytes_of_bits, bits_of_bytes-bytes_of_bits, bytes_of_bits-bits_of_bytes, length-bits_of_bytes}
 use Rattle.des_core.proofs.InverseLemmas.{AreBits-des, AreBits-des_back, des-des_back, des_back-des, length-des, length-des_back}
+
+if_not : (test : Bool) (held failed : List ℕ) → (test ≡ true → ⊥) → (if test then held else failed) ≡ failed
+if_not true held failed isnt = absurd (isnt refl)
+if_not false held failed isnt = refl
 
 -- K1, K2 and K3 of a key of eight bytes are the key
 first_key-eight : (key : List ℕ) → length key ≡ 8 → first_key key ≡ key
@@ -58,6 +63,39 @@ tdea_back_bytes-tdea_bytes key block long small =
       des_back-des k1 bits (length-bits_of_bytes block 8 long),
     )
     (bytes_of_bits-bits_of_bytes block 8 long small)
+
+-- a key of at most eight bytes is all three keys, so that two of the three steps undo each other
+second_key-short : (key : List ℕ) → length key ≤ 8 → second_key key ≡ first_key key
+second_key-short key short = if_not (nat_lt 8 (length key)) (take 8 (drop 8 key)) (first_key key) (grind (arith, common_steps))
+
+third_key-short : (key : List ℕ) → length key ≤ 8 → third_key key ≡ first_key key
+third_key-short key short = if_not (nat_lt 16 (length key)) (take 8 (drop 16 key)) (first_key key) (grind (arith, common_steps))
+
+pub tdea_bytes-short : (key block : List ℕ) → length key ≤ 8 → tdea_bytes key block ≡ des_bytes (first_key key) block
+unfolding tdea_bytes des_bytes
+tdea_bytes-short key block short =
+    let k = bits_of_bytes (first_key key) in
+    let bits = bits_of_bytes block in
+    rw (second_key-short key short, third_key-short key short) (ap (bytes_of_bits 8) (des-des_back k (des k bits) (length-des k bits)))
+
+pub tdea_back_bytes-short : (key block : List ℕ) → length key ≤ 8 → tdea_back_bytes key block ≡ des_back_bytes (first_key key) block
+unfolding tdea_back_bytes des_back_bytes
+tdea_back_bytes-short key block short =
+    let k = bits_of_bytes (first_key key) in
+    let bits = bits_of_bytes block in
+    rw (second_key-short key short, third_key-short key short) (ap (bytes_of_bits 8) (des_back-des k (des_back k bits) (length-des_back k bits)))
+
+pub tdea_bytes-each_short : (key : List ℕ) (blocks : List (List ℕ)) → length key ≤ 8
+    → map (tdea_bytes key) blocks ≡ map (des_bytes (first_key key)) blocks
+tdea_bytes-each_short key [] short = refl
+tdea_bytes-each_short key (block ∷ others) short =
+    same_two (λ (b : List ℕ) (bs : List (List ℕ)). b ∷ bs) (tdea_bytes-short key block short) (tdea_bytes-each_short key others short)
+
+pub tdea_back_bytes-each_short : (key : List ℕ) (blocks : List (List ℕ)) → length key ≤ 8
+    → map (tdea_back_bytes key) blocks ≡ map (des_back_bytes (first_key key)) blocks
+tdea_back_bytes-each_short key [] short = refl
+tdea_back_bytes-each_short key (block ∷ others) short =
+    same_two (λ (b : List ℕ) (bs : List (List ℕ)). b ∷ bs) (tdea_back_bytes-short key block short) (tdea_back_bytes-each_short key others short)
 
 -- past the end of a list of bytes stands 0
 below_everywhere : (bytes : List ℕ) → All (λ byte. byte < 256) bytes → (i : ℕ) → get_or bytes i 0 < 256
@@ -113,6 +151,25 @@ pub tdea_back_bytes-in_a_row : (key block : List ℕ)
 unfolding tdea_back_bytes
 tdea_back_bytes-in_a_row key block =
     unfold des_back_bytes in rw (bits_of-des_bytes, bits_of-des_back_bytes) (unfold tdea_back_bytes in refl)
+
+-- the same of each of some blocks
+pub tdea_bytes-of_each : (key first second third : List ℕ) → first ≡ first_key key → second ≡ second_key key → third ≡ third_key key
+    → (blocks : List (List ℕ))
+    → map (des_bytes third) (map (des_back_bytes second) (map (des_bytes first) blocks)) ≡ map (tdea_bytes key) blocks
+tdea_bytes-of_each key first second third first_is second_is third_is [] = refl
+tdea_bytes-of_each key first second third first_is second_is third_is (block ∷ others) =
+    let one : des_bytes third (des_back_bytes second (des_bytes first block)) ≡ tdea_bytes key block =
+    rw (first_is, second_is, third_is) (sym (tdea_bytes-in_a_row key block)) in
+    same_two (λ (b : List ℕ) (bs : List (List ℕ)). b ∷ bs) one (tdea_bytes-of_each key first second third first_is second_is third_is others)
+
+pub tdea_back_bytes-of_each : (key first second third : List ℕ) → first ≡ first_key key → second ≡ second_key key → third ≡ third_key key
+    → (blocks : List (List ℕ))
+    → map (des_back_bytes first) (map (des_bytes second) (map (des_back_bytes third) blocks)) ≡ map (tdea_back_bytes key) blocks
+tdea_back_bytes-of_each key first second third first_is second_is third_is [] = refl
+tdea_back_bytes-of_each key first second third first_is second_is third_is (block ∷ others) =
+    let one : des_back_bytes first (des_bytes second (des_back_bytes third block)) ≡ tdea_back_bytes key block =
+    rw (first_is, second_is, third_is) (sym (tdea_back_bytes-in_a_row key block)) in
+    same_two (λ (b : List ℕ) (bs : List (List ℕ)). b ∷ bs) one (tdea_back_bytes-of_each key first second third first_is second_is third_is others)
 
 -- a key cut after its first eight bytes, and after all of them
 cut : (key first rest : List ℕ) → first ≡ take 8 key → 8 ≤ length key → take (length (drop 8 key)) rest ≡ drop 8 key

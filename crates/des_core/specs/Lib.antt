@@ -3,4 +3,9 @@ pub mod Permutations
 pub mod KeyTables
 pub mod SelectionFunctions
 pub mod Des
+pub mod Exchanges
+pub mod Joined
+pub mod KeptKeys
+pub mod Rounds
+pub mod PermutedBlocks
 pub mod TripleDes

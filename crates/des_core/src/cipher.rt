@@ -1,30 +1,11 @@
-ghost use Rattle.std.specs.Prelude.{◌≡◌, map, reverse};
-ghost use Rattle.des_core.specs.Bits.{bits_of, bits_of_bytes, bytes_of_bits};
-ghost use Rattle.des_core.specs.Des.{output_block, des_bytes, des_back_bytes};
+ghost use Rattle.std.specs.Prelude.{◌≡◌, map};
+ghost use Rattle.des_core.specs.Bits.{bits_of, bits_of_bytes};
+ghost use Rattle.des_core.specs.Des.{des_bytes, des_back_bytes};
 
-use crate::key_schedule::round_keys;
-use crate::permutation::permute;
-use crate::rounds::preoutput;
-use crate::tables::{FINAL_PERMUTATION, INITIAL_PERMUTATION};
+use crate::key_schedule::{RoundKeys, round_keys};
+use crate::permuted::PermutedBlock;
 use pad_words::Block;
 use std::marker::Model;
-
-/// The output block for an input block and round keys in the order of their use.
-fn output_block(keys: &[u64; 16], block: u64) -> u64
-    ensures { bits_of 64 result ≡ output_block (map (bits_of 48) keys.now) (bits_of 64 block) }
-{
-    let permuted = permute(&INITIAL_PERMUTATION, 64, block);
-    permute(&FINAL_PERMUTATION, 64, preoutput(keys, permuted))
-}
-
-/// The output block for an input block and round keys in the reverse of the order of their use.
-fn output_block_back(keys: &[u64; 16], block: u64) -> u64
-    ensures { bits_of 64 result ≡ output_block (reverse (map (bits_of 48) keys.now)) (bits_of 64 block) }
-{
-    let mut reversed = *keys;
-    reversed.reverse();
-    output_block(&reversed, block)
-}
 
 fn word_of(block: Block) -> u64
     ensures { bits_of 64 result ≡ bits_of_bytes block.0 }
@@ -32,30 +13,24 @@ fn word_of(block: Block) -> u64
     u64::from_be_bytes(block.0)
 }
 
-fn block_of(word: u64) -> Block
-    ensures { result.0 ≡ bytes_of_bits 8 (bits_of 64 word) }
-{
-    Block(word.to_be_bytes())
-}
-
 /// DES under one key, seen as its eight bytes. The round keys are made once, by `new`. Of each byte of the key the lowest
 /// bit, its parity, is not used.
 #[derive(Drop)]
 pub struct Des {
     key: [u8; 8],
-    keys: [u64; 16],
+    forward: RoundKeys,
+    backward: RoundKeys,
 }
 
 impl Model for Des {
-    ghost use Rattle.std.specs.Prelude.{◌≡◌, ℕ, List, map};
-    ghost use Rattle.des_core.specs.Bits.{bits_of, bits_of_bytes};
-    ghost use Rattle.des_core.specs.Des.{round_keys};
+    ghost use Rattle.std.specs.Prelude.{ℕ, List};
+    ghost use Rattle.des_core.specs.KeptKeys.{AreRoundKeysOf};
 
     ghost Value = { List ℕ };
 
     ghost view = { λ des. des.key };
 
-    ghost invariant = { λ des. map (bits_of 48) des.keys ≡ round_keys (bits_of_bytes des.key) };
+    ghost invariant = { λ des. AreRoundKeysOf des.key des.forward des.backward };
 }
 
 impl Des {
@@ -64,22 +39,56 @@ impl Des {
         ensures { result ≡ key.0 }
     {
         let keys = round_keys(word_of(key));
+        let mut reversed = keys;
+        reversed.reverse();
         let key = key.0;
-        Des { key, keys }
+        Des {
+            key,
+            forward: RoundKeys::new(&keys),
+            backward: RoundKeys::new(&reversed),
+        }
+    }
+
+    /// A block in the order of the rounds enciphered.
+    pub fn encrypt_permuted(&self, x: &PermutedBlock) -> PermutedBlock
+        ensures { result ≡ des_bytes self.now x.now }
+    {
+        x.after(&self.forward)
+    }
+
+    /// A block in the order of the rounds deciphered.
+    pub fn decrypt_permuted(&self, x: &PermutedBlock) -> PermutedBlock
+        ensures { result ≡ des_back_bytes self.now x.now }
+    {
+        x.after(&self.backward)
+    }
+
+    /// Three blocks in the order of the rounds enciphered, side by side.
+    pub fn encrypt_three(&self, blocks: &[PermutedBlock; 3]) -> [PermutedBlock; 3]
+        ensures { result ≡ map (des_bytes self.now) blocks.now }
+    {
+        PermutedBlock::three_after(blocks, &self.forward)
+    }
+
+    /// Three blocks in the order of the rounds deciphered, side by side.
+    pub fn decrypt_three(&self, blocks: &[PermutedBlock; 3]) -> [PermutedBlock; 3]
+        ensures { result ≡ map (des_back_bytes self.now) blocks.now }
+    {
+        PermutedBlock::three_after(blocks, &self.backward)
     }
 
     /// A block enciphered.
     pub fn encrypt(&self, x: Block) -> Block
         ensures { result.0 ≡ des_bytes self.now x.0 }
     {
-        block_of(output_block(&self.keys, word_of(x)))
+        self.encrypt_permuted(&PermutedBlock::new(x)).block()
     }
 
     /// A block deciphered: what `encrypt` gives is turned back.
     pub fn decrypt(&self, x: Block) -> Block
         ensures { result.0 ≡ des_back_bytes self.now x.0 }
     {
-        block_of(output_block_back(&self.keys, word_of(x)))
+        self.decrypt_permuted(&PermutedBlock::new(x)).block()
     }
 }
 

@@ -3,9 +3,11 @@
 #![tactic(auto)]
 
 mod cipher;
+mod joined_tables;
 mod key_schedule;
 pub mod laws;
 mod permutation;
+mod permuted;
 mod rounds;
 mod tables;
 #[cfg(test)]
@@ -13,4 +15,6 @@ mod tests;
 mod triple;
 
 pub use cipher::{Des, des_decrypt, des_encrypt};
+pub use joined_tables::joined;
+pub use permuted::PermutedBlock;
 pub use triple::{BadLength, Tdea, block_at};

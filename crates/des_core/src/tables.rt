@@ -1,58 +1,10 @@
-//! The tables of FIPS 46-3, a line for each line of the standard's print.
+//! The tables of FIPS 46-3 by which round keys are made, a line for each line of the standard's print.
 //!
 //! A permutation table gives, for each bit of its result in order, the place of the bit that it takes. Places count from
 //! 1, the most significant bit. Behind each line stand the bits of the result that it gives.
 //!
 //! Each table is compared with the printed one of the definition, entry by entry and by computation, in the contract of
 //! `laws::tables_are_those_of_the_standard`: a wrong entry here or there is refused.
-
-/// IP, the initial permutation.
-pub const INITIAL_PERMUTATION: [u8; 64] = [
-    58, 50, 42, 34, 26, 18, 10, 2, // bits 1 to 8
-    60, 52, 44, 36, 28, 20, 12, 4, // bits 9 to 16
-    62, 54, 46, 38, 30, 22, 14, 6, // bits 17 to 24
-    64, 56, 48, 40, 32, 24, 16, 8, // bits 25 to 32
-    57, 49, 41, 33, 25, 17, 9, 1, // bits 33 to 40
-    59, 51, 43, 35, 27, 19, 11, 3, // bits 41 to 48
-    61, 53, 45, 37, 29, 21, 13, 5, // bits 49 to 56
-    63, 55, 47, 39, 31, 23, 15, 7, // bits 57 to 64
-];
-
-/// The inverse of IP, the final permutation.
-pub const FINAL_PERMUTATION: [u8; 64] = [
-    40, 8, 48, 16, 56, 24, 64, 32, // bits 1 to 8
-    39, 7, 47, 15, 55, 23, 63, 31, // bits 9 to 16
-    38, 6, 46, 14, 54, 22, 62, 30, // bits 17 to 24
-    37, 5, 45, 13, 53, 21, 61, 29, // bits 25 to 32
-    36, 4, 44, 12, 52, 20, 60, 28, // bits 33 to 40
-    35, 3, 43, 11, 51, 19, 59, 27, // bits 41 to 48
-    34, 2, 42, 10, 50, 18, 58, 26, // bits 49 to 56
-    33, 1, 41, 9, 49, 17, 57, 25, // bits 57 to 64
-];
-
-/// The E bit-selection table.
-pub const BIT_SELECTION: [u8; 48] = [
-    32, 1, 2, 3, 4, 5, // bits 1 to 6
-    4, 5, 6, 7, 8, 9, // bits 7 to 12
-    8, 9, 10, 11, 12, 13, // bits 13 to 18
-    12, 13, 14, 15, 16, 17, // bits 19 to 24
-    16, 17, 18, 19, 20, 21, // bits 25 to 30
-    20, 21, 22, 23, 24, 25, // bits 31 to 36
-    24, 25, 26, 27, 28, 29, // bits 37 to 42
-    28, 29, 30, 31, 32, 1, // bits 43 to 48
-];
-
-/// The permutation function P.
-pub const ROUND_PERMUTATION: [u8; 32] = [
-    16, 7, 20, 21, // bits 1 to 4
-    29, 12, 28, 17, // bits 5 to 8
-    1, 15, 23, 26, // bits 9 to 12
-    5, 18, 31, 10, // bits 13 to 16
-    2, 8, 24, 14, // bits 17 to 20
-    32, 27, 3, 9, // bits 21 to 24
-    19, 13, 30, 6, // bits 25 to 28
-    22, 11, 4, 25, // bits 29 to 32
-];
 
 /// PC-1, permuted choice 1: bits 1 to 28 are the half C, bits 29 to 56 the half D.
 pub const PERMUTED_CHOICE_1: [u8; 56] = [
@@ -80,55 +32,3 @@ pub const PERMUTED_CHOICE_2: [u8; 48] = [
 
 /// The number of left shifts in each of the sixteen iterations.
 pub const LEFT_SHIFTS: [u8; 16] = [1, 1, 2, 2, 2, 2, 2, 2, 1, 2, 2, 2, 2, 2, 2, 1];
-
-/// The selection functions S1 to S8, each of four rows of sixteen columns.
-pub const SELECTION_FUNCTIONS: [[[u8; 16]; 4]; 8] = [
-    [
-        [14, 4, 13, 1, 2, 15, 11, 8, 3, 10, 6, 12, 5, 9, 0, 7],
-        [0, 15, 7, 4, 14, 2, 13, 1, 10, 6, 12, 11, 9, 5, 3, 8],
-        [4, 1, 14, 8, 13, 6, 2, 11, 15, 12, 9, 7, 3, 10, 5, 0],
-        [15, 12, 8, 2, 4, 9, 1, 7, 5, 11, 3, 14, 10, 0, 6, 13],
-    ],
-    [
-        [15, 1, 8, 14, 6, 11, 3, 4, 9, 7, 2, 13, 12, 0, 5, 10],
-        [3, 13, 4, 7, 15, 2, 8, 14, 12, 0, 1, 10, 6, 9, 11, 5],
-        [0, 14, 7, 11, 10, 4, 13, 1, 5, 8, 12, 6, 9, 3, 2, 15],
-        [13, 8, 10, 1, 3, 15, 4, 2, 11, 6, 7, 12, 0, 5, 14, 9],
-    ],
-    [
-        [10, 0, 9, 14, 6, 3, 15, 5, 1, 13, 12, 7, 11, 4, 2, 8],
-        [13, 7, 0, 9, 3, 4, 6, 10, 2, 8, 5, 14, 12, 11, 15, 1],
-        [13, 6, 4, 9, 8, 15, 3, 0, 11, 1, 2, 12, 5, 10, 14, 7],
-        [1, 10, 13, 0, 6, 9, 8, 7, 4, 15, 14, 3, 11, 5, 2, 12],
-    ],
-    [
-        [7, 13, 14, 3, 0, 6, 9, 10, 1, 2, 8, 5, 11, 12, 4, 15],
-        [13, 8, 11, 5, 6, 15, 0, 3, 4, 7, 2, 12, 1, 10, 14, 9],
-        [10, 6, 9, 0, 12, 11, 7, 13, 15, 1, 3, 14, 5, 2, 8, 4],
-        [3, 15, 0, 6, 10, 1, 13, 8, 9, 4, 5, 11, 12, 7, 2, 14],
-    ],
-    [
-        [2, 12, 4, 1, 7, 10, 11, 6, 8, 5, 3, 15, 13, 0, 14, 9],
-        [14, 11, 2, 12, 4, 7, 13, 1, 5, 0, 15, 10, 3, 9, 8, 6],
-        [4, 2, 1, 11, 10, 13, 7, 8, 15, 9, 12, 5, 6, 3, 0, 14],
-        [11, 8, 12, 7, 1, 14, 2, 13, 6, 15, 0, 9, 10, 4, 5, 3],
-    ],
-    [
-        [12, 1, 10, 15, 9, 2, 6, 8, 0, 13, 3, 4, 14, 7, 5, 11],
-        [10, 15, 4, 2, 7, 12, 9, 5, 6, 1, 13, 14, 0, 11, 3, 8],
-        [9, 14, 15, 5, 2, 8, 12, 3, 7, 0, 4, 10, 1, 13, 11, 6],
-        [4, 3, 2, 12, 9, 5, 15, 10, 11, 14, 1, 7, 6, 0, 8, 13],
-    ],
-    [
-        [4, 11, 2, 14, 15, 0, 8, 13, 3, 12, 9, 7, 5, 10, 6, 1],
-        [13, 0, 11, 7, 4, 9, 1, 10, 14, 3, 5, 12, 2, 15, 8, 6],
-        [1, 4, 11, 13, 12, 3, 7, 14, 10, 15, 6, 8, 0, 5, 9, 2],
-        [6, 11, 13, 8, 1, 4, 10, 7, 9, 5, 0, 15, 14, 2, 3, 12],
-    ],
-    [
-        [13, 2, 8, 4, 6, 15, 11, 1, 10, 9, 3, 14, 5, 0, 12, 7],
-        [1, 15, 13, 8, 10, 3, 7, 4, 12, 5, 6, 11, 0, 14, 9, 2],
-        [7, 11, 4, 1, 9, 12, 14, 2, 0, 6, 10, 13, 15, 3, 5, 8],
-        [2, 1, 14, 7, 4, 10, 8, 13, 15, 12, 9, 0, 3, 5, 6, 11],
-    ],
-];

@@ -1,6 +1,8 @@
-ghost use Rattle.std.specs.Prelude.{◌≡◌, ◌+◌, ◌≤◌, length, take, drop, is_ok, IfOk};
+ghost use Rattle.std.specs.Bool.{OnTrue};
+ghost use Rattle.std.specs.Prelude.{◌≡◌, ◌+◌, ◌≤◌, length, map, take, drop, is_ok, IfOk};
 
 use crate::cipher::Des;
+use crate::permuted::PermutedBlock;
 use pad_words::Block;
 use std::marker::Model;
 
@@ -63,21 +65,75 @@ impl Tdea {
         })
     }
 
+    /// Whether K1, K2 and K3 are the one key of eight bytes, so that two of the three steps undo each other. This asks for
+    /// the length of the key and for none of its bits.
+    fn has_one_key(&self) -> bool
+        ensures { OnTrue result (length self.now ≤ 8) }
+    {
+        self.key_length == 8
+    }
+
+    /// A block in the order of the rounds enciphered under K1, deciphered under K2 and enciphered under K3.
+    pub fn encrypt_permuted(&self, x: &PermutedBlock) -> PermutedBlock
+        ensures { result ≡ tdea_bytes self.now x.now }
+    {
+        if self.has_one_key() {
+            return self.first.encrypt_permuted(x);
+        }
+        let first = self.first.encrypt_permuted(x);
+        let second = self.second.decrypt_permuted(&first);
+        self.third.encrypt_permuted(&second)
+    }
+
+    /// A block in the order of the rounds deciphered under K3, enciphered under K2 and deciphered under K1.
+    pub fn decrypt_permuted(&self, x: &PermutedBlock) -> PermutedBlock
+        ensures { result ≡ tdea_back_bytes self.now x.now }
+    {
+        if self.has_one_key() {
+            return self.first.decrypt_permuted(x);
+        }
+        let third = self.third.decrypt_permuted(x);
+        let second = self.second.encrypt_permuted(&third);
+        self.first.decrypt_permuted(&second)
+    }
+
+    /// Three blocks in the order of the rounds, side by side: each enciphered under K1, deciphered under K2 and enciphered
+    /// under K3.
+    pub fn encrypt_three(&self, blocks: &[PermutedBlock; 3]) -> [PermutedBlock; 3]
+        ensures { result ≡ map (tdea_bytes self.now) blocks.now }
+    {
+        if self.has_one_key() {
+            return self.first.encrypt_three(blocks);
+        }
+        let first = self.first.encrypt_three(blocks);
+        let second = self.second.decrypt_three(&first);
+        self.third.encrypt_three(&second)
+    }
+
+    /// Three blocks in the order of the rounds, side by side: each deciphered under K3, enciphered under K2 and deciphered
+    /// under K1.
+    pub fn decrypt_three(&self, blocks: &[PermutedBlock; 3]) -> [PermutedBlock; 3]
+        ensures { result ≡ map (tdea_back_bytes self.now) blocks.now }
+    {
+        if self.has_one_key() {
+            return self.first.decrypt_three(blocks);
+        }
+        let third = self.third.decrypt_three(blocks);
+        let second = self.second.encrypt_three(&third);
+        self.first.decrypt_three(&second)
+    }
+
     /// A block enciphered under K1, deciphered under K2 and enciphered under K3.
     pub fn encrypt(&self, x: Block) -> Block
         ensures { result.0 ≡ tdea_bytes self.now x.0 }
     {
-        let first = self.first.encrypt(x);
-        let second = self.second.decrypt(first);
-        self.third.encrypt(second)
+        self.encrypt_permuted(&PermutedBlock::new(x)).block()
     }
 
     /// A block deciphered under K3, enciphered under K2 and deciphered under K1.
     pub fn decrypt(&self, x: Block) -> Block
         ensures { result.0 ≡ tdea_back_bytes self.now x.0 }
     {
-        let third = self.third.decrypt(x);
-        let second = self.second.encrypt(third);
-        self.first.decrypt(second)
+        self.decrypt_permuted(&PermutedBlock::new(x)).block()
     }
 }

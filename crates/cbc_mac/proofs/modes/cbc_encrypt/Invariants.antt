@@ -1,13 +1,11 @@
-use Rattle.std.proofs.Common.{◌≡◌, ◌-◌, ◌*◌, ◌/◌, ◌++◌, length, take, drop}
+use Rattle.std.proofs.Common.{List, length, ◌/◌, ℕ}
 use Rattle.std.specs.List.{concat}
 use Rattle.des_core.specs.TripleDes.{tdea_bytes}
-use Rattle.cbc_mac.specs.Modes.{cbc, blocks, blocks_of}
+use Rattle.cbc_mac.specs.Modes.{cbc, blocks_of}
+use Rattle.cbc_mac.proofs.ModeLemmas.{IsChanged}
 use Rattle.cbc_mac.proofs.modes.cbc_encrypt.Given as goal
 
 abbrev pub invariant-loop-i : goal.invariant-loop-i
 invariant-loop-i l =
-    let n = length l.initial.buf / 8 in
-    record {
-      joined : take (8 * l.i) l.buf ++ concat (cbc (tdea_bytes l.key) l.before.0 (blocks (n - l.i) (drop (8 * l.i) l.buf))) ≡ concat (cbc (tdea_bytes l.key) l.fn.start.0 (blocks_of l.initial.buf));
-      long : length l.buf ≡ 8 * n;
-    }
+    let chained : List ℕ → List (List ℕ) → List ℕ = λ start blocks. concat (cbc (tdea_bytes l.key) start blocks) in
+    IsChanged l.buf (length l.fn.buf / 8) l.i (chained l.before) (chained l.fn.start.0 (blocks_of l.fn.buf))

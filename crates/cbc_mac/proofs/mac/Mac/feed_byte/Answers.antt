@@ -1,5 +1,3 @@
-use Rattle.std.proofs.Common.{ap, ◌∙◌}
-use Rattle.des_core.specs.Des.{des_bytes}
 use Rattle.cbc_mac.proofs.MacLemmas.{byte_held, byte_completes}
 use Rattle.cbc_mac.proofs.mac.Mac.feed_byte.Goals as goal
 use Rattle.cbc_mac.proofs.mac.Mac.feed_byte.Goals.{then-self-eq8, else-self-eq8}
@@ -11,9 +9,9 @@ invariant_of-self c =
     elim c.if-self-eq8.branch [
       | then-self-eq8 w ↦
           rw (c.then-self-inside.ensures, w.self-inside-is)
-          (byte_completes s.left s.chained.0 s.held s.message.bytes w.encrypt-self-inside.result.0 s.held_count byte w.if-self-eq8.true
-          (w.encrypt-self-inside.ensures ∙ ap (des_bytes s.left) w.exclusive_or.ensures) c.self.invariant)
+          (byte_completes s.left s.chained s.held s.message.bytes w.sealed-self-inside.result s.held_count byte w.if-self-eq8.true
+          w.sealed-self-inside.ensures c.self.invariant)
       | else-self-eq8 w ↦
           rw (c.then-self-inside.ensures, w.self-inside-is)
-          (byte_held s.left s.chained.0 s.held s.message.bytes s.held_count byte w.if-self-eq8.false c.self.invariant)
+          (byte_held s.left s.chained s.held s.message.bytes s.held_count byte w.if-self-eq8.false c.self.invariant)
     ]

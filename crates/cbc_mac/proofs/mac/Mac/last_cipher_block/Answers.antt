@@ -8,17 +8,19 @@ use Rattle.cbc_mac.proofs.mac.Mac.last_cipher_block.Goals as goal
 pub returns-then-self-eq0 : goal.returns-then-self-eq0
 returns-then-self-eq0 c =
     let s = c.self.inside in
-    let P : Fed → Type 0 = λ fed. s.chained.0 ≡ mac des_bytes (take 8 fed.key) fed.message c.args.pad in
-    subst P c.self.view_is
-    (last_whole s.left s.chained.0 s.held s.message.bytes s.held_count c.args.pad c.self.invariant c.if-self-eq0.true
+    let P : Fed → Type 0 = λ fed. s.chained ≡ mac des_bytes (take 8 fed.key) fed.message c.args.pad in
+    c.block.ensures
+    ∙ subst P c.self.view_is
+    (last_whole s.left s.chained s.held s.message.bytes s.held_count c.args.pad c.self.invariant c.if-self-eq0.true
     ∙ ap (λ key. mac des_bytes key s.message.bytes c.args.pad) (sym (left_of s.left s.right c.self.invariant.left_length)))
 
 pub returns : goal.returns
 returns c =
     let s = c.self.inside in
-    let P : Fed → Type 0 = λ fed. c.encrypt.result.0 ≡ mac des_bytes (take 8 fed.key) fed.message c.args.pad in
-    let sealed : c.encrypt.result.0 ≡ des_bytes s.left (exclusive_or (take s.held_count s.held ++ replicate (8 - s.held_count) c.args.pad) s.chained.0) =
-    c.encrypt.ensures ∙ ap (des_bytes s.left) (c.exclusive_or.ensures ∙ ap (λ block. exclusive_or block s.chained.0) c.padded_block-block.ensures) in
-    subst P c.self.view_is
-    (last_filled s.left s.chained.0 s.held s.message.bytes c.encrypt.result.0 s.held_count c.args.pad c.self.invariant c.if-self-eq0.false sealed
+    let P : Fed → Type 0 = λ fed. c.sealed.result ≡ mac des_bytes (take 8 fed.key) fed.message c.args.pad in
+    let sealed : c.sealed.result ≡ des_bytes s.left (exclusive_or (take s.held_count s.held ++ replicate (8 - s.held_count) c.args.pad) s.chained) =
+    c.sealed.ensures ∙ ap (λ block. des_bytes s.left (exclusive_or block s.chained)) c.padded_block-block.ensures in
+    c.block-2.ensures
+    ∙ subst P c.self.view_is
+    (last_filled s.left s.chained s.held s.message.bytes c.sealed.result s.held_count c.args.pad c.self.invariant c.if-self-eq0.false sealed
     ∙ ap (λ key. mac des_bytes key s.message.bytes c.args.pad) (sym (left_of s.left s.right c.self.invariant.left_length)))

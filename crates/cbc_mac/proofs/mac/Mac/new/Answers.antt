@@ -1,4 +1,5 @@
-use Rattle.std.proofs.Common.{◌≡◌, length, take, ap, ◌∙◌, refl, rules}
+use Rattle.std.proofs.Common.{List, ap, length, refl, rules, subst, sym, take, ◌≡◌, ◌∙◌, ℕ}
+use Rattle.cbc_mac.specs.Macs.{IsKept}
 use Rattle.cbc_mac.proofs.MacLemmas.{fed_single, fed_retail, kept_none}
 use Rattle.cbc_mac.proofs.mac.Mac.new.Goals as goal
 use Rattle.cbc_mac.proofs.mac.Mac.new.Goals.{in-Single, in-Retail}
@@ -6,7 +7,8 @@ use Rattle.cbc_mac.proofs.mac.Mac.new.Goals.{in-Single, in-Retail}
 pub invariant_of-result : goal.invariant_of-result
 invariant_of-result c =
     let eight : length c.new-2.result ≡ 8 = ap length c.new-2.ensures ∙ search rules in
-    kept_none c.new-2.result _ c.empty.result.bytes eight refl c.empty.ensures
+    let P : List ℕ → Type 0 = λ chained. IsKept c.new-2.result chained _ 0 c.empty.result.bytes in
+    subst P (sym c.new-3.ensures) (kept_none c.new-2.result _ c.empty.result.bytes eight refl c.empty.ensures)
 
 pub returns-clause-value : goal.returns-clause-value
 returns-clause-value c =
