@@ -1,5 +1,5 @@
 -- Small numbers as values of their types.
-use Rattle.std.specs.Prelude.{◌≡◌, ℕ, ◌<◌, ◌≤◌, Bool, true, false, nat_lt, nat_le, ◌&&◌, Option, Some, None, refl}
+use Rattle.std.specs.Prelude.{◌≡◌, ℕ, ◌<◌, ◌≤◌, Bool, true, false, nat_lt, nat_le, ◌&&◌, ◌==◌, Option, Some, None, refl}
 use mathlib.Core.HLevel.{is_prop→PathP}
 use Rattle.pad_words.specs.declared.numbers.Digit.{Digit}
 use Rattle.pad_words.specs.declared.numbers.Session.{Session}
@@ -7,6 +7,10 @@ use Rattle.std.proofs.Math.Bridge.{le_prop}
 use Rattle.std.proofs.lemmas.Bool.{ltb-true}
 use Rattle.std.proofs.lemmas.Bool.Decides.{nat_tests}
 use Rattle.std.proofs.Common.{arith, ap}
+
+-- the two are one session
+abbrev pub same_session : Session → Session → Bool
+same_session first second = first.number == second.number
 
 -- digits and sessions with one number are one
 pub digit_eq : (a b : Digit) → a.value ≡ b.value → a ≡ b

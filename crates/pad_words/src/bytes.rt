@@ -1,5 +1,5 @@
 //! Bytes and half bytes: a list of bytes, a block of eight, a list of nibbles.
-ghost use Rattle.std.specs.Prelude.{◌≡◌, ◌<◌, ◌≤◌, ◌↔◌, ◌++◌, ◌∷◌, [], length, All, IsTrue, OnOk, OnErr, IfOk};
+ghost use Rattle.std.specs.Prelude.{◌≡◌, ◌<◌, ◌≤◌, ◌↔◌, ◌++◌, ◌-◌, ◌∷◌, [], length, take, All, IsTrue, OnOk, OnErr, IfOk};
 ghost use Rattle.std.specs.Bool.{OnTrue, OnFalse};
 ghost use Rattle.pad_words.specs.Bytes.{exclusive_or};
 
@@ -146,6 +146,20 @@ impl Nibbles {
         }
         self.values.push(v);
         true
+    }
+
+    /// Drops the last value, if there is one.
+    pub fn drop_last(&mut self)
+        ensures { self.new ≡ take (length self.old - 1) self.old }
+    {
+        let _ = self.values.pop();
+    }
+
+    /// Drops all values.
+    pub fn clear(&mut self)
+        ensures { self.new ≡ [] }
+    {
+        self.values.clear();
     }
 
     /// The same values again, without memory.

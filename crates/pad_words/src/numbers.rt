@@ -73,3 +73,12 @@ impl Session {
         self.number
     }
 }
+
+impl Default for Session {
+    /// The session 1.
+    fn default() -> Session
+        ensures { result.number ≡ 1 }
+    {
+        Session { number: 1 }
+    }
+}
