@@ -1,0 +1,2 @@
+pub mod LockAnswers
+pub mod LockLine

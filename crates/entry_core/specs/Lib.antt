@@ -1,0 +1,3 @@
+pub mod Entries
+pub mod Presses
+pub mod Runs

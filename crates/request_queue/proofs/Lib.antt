@@ -1,0 +1,16 @@
+pub mod ChainLemmas
+pub mod NodeLemmas
+pub mod RelinkLemmas
+pub mod ChainsAfter
+pub mod RowLemmas
+pub mod FindLemmas
+pub mod LookupLemmas
+pub mod WalkLemmas
+pub mod Totals
+pub mod FinishLemmas
+pub mod FinishById
+pub mod BeginLemmas
+pub mod SubmitLemmas
+pub mod LookLemmas
+pub mod LawLemmas
+pub mod EndLemmas
