@@ -1,2 +1,4 @@
-pub mod FieldLemmas
 pub mod BlockLemmas
+pub mod FillLemmas
+pub mod Packing
+pub mod PutNibbles
