@@ -1,162 +1,145 @@
--- Steps that a line of the script spells, as far as lines are built.
-use Rattle.key_source.specs.declared.Key.{Key}
-use Rattle.key_source.specs.declared.Key.TheVariants as keypad
+-- What form a step has: the ranges of its numbers and the lengths of its lists. A line of the script spells just the steps that have it.
+use Rattle.key_source.specs.Keys.{is_key}
 use Rattle.key_source.specs.declared.Mask.{Mask}
-use Rattle.pad_steps.specs.Accounts.{is_pan}
+use Rattle.pad_steps.specs.Accounts.{all_decimal}
 use Rattle.pad_steps.specs.declared.commands.BlockRequest.{BlockRequest}
+use Rattle.pad_steps.specs.declared.commands.CheckRequest.{CheckRequest}
 use Rattle.pad_steps.specs.declared.commands.Command.{Command}
 use Rattle.pad_steps.specs.declared.commands.Command.TheVariants as command
 use Rattle.pad_steps.specs.declared.commands.CryptRequest.{CryptRequest}
 use Rattle.pad_steps.specs.declared.commands.EntryRules.{EntryRules}
-use Rattle.pad_steps.specs.declared.commands.Form.{Form}
-use Rattle.pad_steps.specs.declared.commands.Form.TheVariants as forms
+use Rattle.pad_steps.specs.declared.commands.ExtraRequest.{ExtraRequest}
 use Rattle.pad_steps.specs.declared.commands.ImportRequest.{ImportRequest}
 use Rattle.pad_steps.specs.declared.commands.ImportSource.{ImportSource}
 use Rattle.pad_steps.specs.declared.commands.ImportSource.TheVariants as origin
+use Rattle.pad_steps.specs.declared.commands.PartRules.{PartRules}
 use Rattle.pad_steps.specs.declared.commands.PinRequest.{PinRequest}
 use Rattle.pad_steps.specs.declared.commands.PinRequest.TheVariants as pin
 use Rattle.pad_steps.specs.declared.commands.Start.{Start}
 use Rattle.pad_steps.specs.declared.commands.Start.TheVariants as started
+use Rattle.pad_steps.specs.declared.steps.Question.{Question}
+use Rattle.pad_steps.specs.declared.steps.Question.TheVariants as question
 use Rattle.pad_steps.specs.declared.steps.Step.{Step}
 use Rattle.pad_steps.specs.declared.steps.Step.TheVariants as step
 use Rattle.pad_words.specs.Names.{is_key_name}
 use Rattle.pad_words.specs.declared.bytes.Block.{Block}
-use Rattle.pad_words.specs.declared.numbers.Session.{Session}
 use Rattle.std.specs.List.{list_all}
-use Rattle.std.specs.Prelude.{Bool, List, false, is_none, length, nat_le, nat_lt, not, true, ℕ, ◌&&◌, ◌==◌, ◌||◌}
-
--- the session that a line may name: 1 alone
-abbrev pub is_built_session : Session → Bool
-is_built_session s = s.number == 1
-
--- digits, ENTER, CANCEL, CLEAR and BACKSPACE: key bits 0 to 9 and 16 to 19
-abbrev pub entry_keys : Mask
-entry_keys = record { keys = 0x000F03FF; fdks = 0 }
-
--- ENTER and CANCEL: key bits 16 and 17
-abbrev pub ending_keys : Mask
-ending_keys = record { keys = 0x00030000; fdks = 0 }
-
--- the two masks have the same keys
-abbrev pub same_mask : Mask → Mask → Bool
-same_mask a b = (a.keys == b.keys) && (a.fdks == b.fdks)
-
--- the rules of the PIN entry that a line may ask for: 4 to 16 digits, held until ENTER or CANCEL
-abbrev pub is_built_entry : EntryRules → Bool
-is_built_entry rules = (rules.min == 4) && (rules.max == 16) && not rules.auto_end && same_mask rules.active entry_keys && same_mask rules.terminate ending_keys
-
--- ISO 9564-1 format 0
-abbrev pub is_format_0 : Form → Bool
-is_format_0 forms.Iso0 = true
-is_format_0 forms.Iso1 = false
-is_format_0 forms.Iso2 = false
-is_format_0 forms.Iso3 = false
-is_format_0 forms.Iso4 = false
-is_format_0 forms.Ibm3624 = false
-is_format_0 forms.Diebold = false
-is_format_0 forms.DieboldCo = false
-
--- the PIN block that a line may ask for: format 0 under one key, for a PAN, with any padding nibble
-abbrev pub is_built_block : BlockRequest → Bool
-is_built_block request = is_format_0 request.form && is_key_name request.key && is_none request.second && is_none request.xor && is_pan request.customer && nat_le request.pad 15
-
--- a block, and no other PIN command
-abbrev pub is_built_pin : PinRequest → Bool
-is_built_pin (pin.Block request) = is_built_block request
-is_built_pin (pin.Check request) = false
-is_built_pin (pin.Extra request) = false
+use Rattle.std.specs.Prelude.{Bool, List, None, Option, Some, false, length, nat_le, nat_lt, true, ℕ, ◌&&◌, ◌==◌}
 
 -- each is a byte
 abbrev pub all_bytes : List ℕ → Bool
 all_bytes values = list_all (λ value. nat_lt value 256) values
 
--- 1 to 64 bytes, whether or not a key may be so long
-abbrev pub is_built_value : List ℕ → Bool
-is_built_value value = nat_le 1 (length value) && nat_le (length value) 64 && all_bytes value
+-- each is a nibble
+abbrev pub all_nibbles : List ℕ → Bool
+all_nibbles values = list_all (λ value. nat_lt value 16) values
 
--- a value in clear, or sealed under a key
-abbrev pub is_built_source : ImportSource → Bool
-is_built_source (origin.Clear value) = is_built_value value
-is_built_source (origin.Sealed name value) = is_key_name name && is_built_value value
-is_built_source origin.Part = false
+-- a number of 32 bits
+abbrev pub is_word : ℕ → Bool
+is_word number = nat_lt number 4294967296
 
--- the import that a line may ask for: a value in clear or sealed, any word of uses, any check value
-abbrev pub is_built_import : ImportRequest → Bool
-is_built_import request = is_key_name request.name && is_built_source request.source && nat_lt request.uses 65536
+-- two numbers of 32 bits
+abbrev pub is_mask : Mask → Bool
+is_mask mask = is_word mask.keys && is_word mask.fdks
+
+-- the rules of the entry of a PIN or of data: lengths of 0 to 255
+abbrev pub is_entry : EntryRules → Bool
+is_entry rules = nat_lt rules.min 256 && nat_lt rules.max 256 && is_mask rules.active && is_mask rules.terminate
+
+-- the rules of the entry of a key part: a length of 0 to 255
+abbrev pub is_part_entry : PartRules → Bool
+is_part_entry rules = nat_lt rules.count 256 && is_mask rules.active && is_mask rules.terminate
 
 -- eight bytes
 abbrev pub is_block : Block → Bool
 is_block block = (length block.0 == 8) && all_bytes block.0
 
--- none, or a block in clear or sealed under a key
-abbrev pub is_built_start : Start → Bool
-is_built_start started.Zero = true
-is_built_start (started.Clear block) = is_block block
-is_built_start (started.Sealed name block) = is_key_name name && is_block block
+-- eight bytes, or none
+abbrev pub is_optional_block : Option Block → Bool
+is_optional_block None = true
+is_optional_block (Some block) = is_block block
 
--- what CRYPT may be asked for: any algorithm, start value and padding byte, and at most 1,024 bytes
-abbrev pub is_built_crypt : CryptRequest → Bool
-is_built_crypt request = is_key_name request.key && is_built_start request.start && nat_lt request.pad 256 && nat_le (length request.body) 1024 && all_bytes request.body
+-- a name, or none
+abbrev pub is_optional_name : Option (List ℕ) → Bool
+is_optional_name None = true
+is_optional_name (Some name) = is_key_name name
 
--- a command that a line spells
+-- a PIN block under one key or two, with any customer data of at most 24 nibbles
+abbrev pub is_block_request : BlockRequest → Bool
+is_block_request request = is_key_name request.key && is_optional_name request.second && is_optional_block request.xor
+    && nat_le (length request.customer) 24 && all_nibbles request.customer && nat_le request.pad 15
+
+-- a check: 1 to 16 nibbles of validation data, an offset of at most 16 digits, and a table of 16 digits
+abbrev pub is_check_request : CheckRequest → Bool
+is_check_request request = is_key_name request.key && nat_le 1 (length request.validation) && nat_le (length request.validation) 16 && all_nibbles request.validation
+    && nat_le request.pad 15 && nat_le (length request.offset) 16 && all_decimal request.offset && nat_lt request.count 256
+    && (length request.table == 16) && all_decimal request.table
+
+-- at most 1,024 bytes
+abbrev pub is_body : List ℕ → Bool
+is_body values = nat_le (length values) 1024 && all_bytes values
+
+-- a PIN command that is neither a block nor a check: its kind, and its body
+abbrev pub is_extra_request : ExtraRequest → Bool
+is_extra_request request = nat_lt request.kind 256 && is_key_name request.key && is_body request.body
+
+-- a PIN command
+abbrev pub is_pin_request : PinRequest → Bool
+is_pin_request (pin.Block request) = is_block_request request
+is_pin_request (pin.Check request) = is_check_request request
+is_pin_request (pin.Extra request) = is_extra_request request
+
+-- the command is neither a block nor a check
+abbrev pub is_extra : PinRequest → Bool
+is_extra (pin.Extra request) = true
+is_extra other = false
+
+-- no start value, or eight bytes, in clear or sealed under a key
+abbrev pub is_start : Start → Bool
+is_start started.Zero = true
+is_start (started.Clear block) = is_block block
+is_start (started.Sealed name block) = is_key_name name && is_block block
+
+-- CRYPT: any algorithm, start value and padding byte, and at most 1,024 bytes
+abbrev pub is_crypt_request : CryptRequest → Bool
+is_crypt_request request = is_key_name request.key && is_start request.start && nat_lt request.pad 256 && is_body request.body
+
+-- 1 to 64 bytes, whether or not a key may be so long
+abbrev pub is_value : List ℕ → Bool
+is_value value = nat_le 1 (length value) && nat_le (length value) 64 && all_bytes value
+
+-- a value in clear, one that is sealed under a key, or the part buffer
+abbrev pub is_source : ImportSource → Bool
+is_source (origin.Clear value) = is_value value
+is_source (origin.Sealed name value) = is_key_name name && is_value value
+is_source origin.Part = true
+
+-- an import, with any word of uses
+abbrev pub is_import_request : ImportRequest → Bool
+is_import_request request = is_key_name request.name && is_source request.source && nat_lt request.uses 65536
+
+-- the form of a command
 abbrev pub is_well_formed_command : Command → Bool
-is_well_formed_command (command.GetPin rules) = is_built_entry rules
-is_well_formed_command (command.GetData rules) = false
-is_well_formed_command (command.SecureKeyEntry rules) = false
-is_well_formed_command (command.MaintainPin on) = false
-is_well_formed_command (command.Pin request) = is_built_pin request
-is_well_formed_command (command.Crypt request) = is_built_crypt request
-is_well_formed_command (command.ImportKey request) = is_built_import request
+is_well_formed_command (command.GetPin rules) = is_entry rules
+is_well_formed_command (command.GetData rules) = is_entry rules
+is_well_formed_command (command.SecureKeyEntry rules) = is_part_entry rules
+is_well_formed_command (command.Pin request) = is_pin_request request
+is_well_formed_command (command.Crypt request) = is_crypt_request request
+is_well_formed_command (command.ImportKey request) = is_import_request request
 is_well_formed_command (command.DeleteKey name) = is_key_name name
-is_well_formed_command command.Init = false
-is_well_formed_command command.Reset = false
-is_well_formed_command command.RsaImport = true
+is_well_formed_command other = true
 
--- a key that a line may press: a digit, ENTER, CANCEL, CLEAR or BACKSPACE
-abbrev pub is_built_key : Key → Bool
-is_built_key (keypad.Digit d) = true
-is_built_key (keypad.Hex v) = false
-is_built_key keypad.Enter = true
-is_built_key keypad.Cancel = true
-is_built_key keypad.Clear = true
-is_built_key keypad.Backspace = true
-is_built_key keypad.Help = false
-is_built_key (keypad.Fdk n) = false
+-- the form of a question
+abbrev pub is_question : Question → Bool
+is_question (question.Key name) = is_key_name name
+is_question (question.Reply id) = is_word id
+is_question other = true
 
--- a step that a line of the script spells
-abbrev pub is_scripted : Step → Bool
-is_scripted (step.Open s) = is_built_session s
-is_scripted (step.Close s) = false
-is_scripted (step.Listen s classes) = is_built_session s
-is_scripted (step.Lock s) = false
-is_scripted (step.Unlock s) = false
-is_scripted (step.Submit s limit c) = is_built_session s && (limit == 0) && is_well_formed_command c
-is_scripted (step.Cancel s id) = false
-is_scripted step.Begin = false
-is_scripted step.Finish = false
-is_scripted (step.Press key) = is_built_key key
-is_scripted (step.Tick n) = false
-is_scripted (step.Ask s question) = false
-is_scripted step.Off = false
-is_scripted step.Boot = false
-
--- the step is Begin or Finish
-abbrev pub is_work : Step → Bool
-is_work (step.Open s) = false
-is_work (step.Close s) = false
-is_work (step.Listen s classes) = false
-is_work (step.Lock s) = false
-is_work (step.Unlock s) = false
-is_work (step.Submit s limit c) = false
-is_work (step.Cancel s id) = false
-is_work step.Begin = true
-is_work step.Finish = true
-is_work (step.Press key) = false
-is_work (step.Tick n) = false
-is_work (step.Ask s question) = false
-is_work step.Off = false
-is_work step.Boot = false
-
--- a step that the machine takes: one of a line, or Begin or Finish, which `auto` takes
+-- the form of a step: a limit of at most 1,000,000 ticks, a tick of 1 to 1,000,000, and the forms of commands, keys and questions
 abbrev pub is_well_formed : Step → Bool
-is_well_formed s = is_scripted s || is_work s
+is_well_formed (step.Submit session limit command) = nat_le limit 1000000 && is_well_formed_command command
+is_well_formed (step.Cancel session id) = is_word id
+is_well_formed (step.Press key) = is_key key
+is_well_formed (step.Tick ticks) = nat_le 1 ticks && nat_le ticks 1000000
+is_well_formed (step.Ask session question) = is_question question
+is_well_formed other = true

@@ -1,3 +1,4 @@
 pub mod Accounts
 pub mod Formed
 pub mod Lines
+pub mod Today

@@ -9,8 +9,8 @@ pub fn is_pan(digits: &[u8]) -> bool
     12 <= digits.len() && digits.len() <= 19 && are_decimal(digits)
 }
 
-// whether all values are decimal digits
-fn are_decimal(values: &[u8]) -> bool
+/// Whether all values are decimal digits.
+pub fn are_decimal(values: &[u8]) -> bool
     ensures { result ≡ all_decimal values.now }
 {
     values.iter().all(|&value| value < 10)

@@ -28,6 +28,8 @@ pub enum Answer {
     Figures(Nibbles, Completion),
     Part(u8, Completion, Option<[u8; 3]>),
     Block(Block),
+    /// Two blocks, the left one first.
+    Wide(Block, Block),
     Checked(bool),
     Crypt(Octets),
     Mac(Block),

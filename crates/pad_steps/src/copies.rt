@@ -1,7 +1,8 @@
 //! Copies of commands, of refusals and of events. Each takes its memory first, and is what was copied again.
-ghost use Rattle.std.specs.Prelude.{◌≡◌, IfOk};
+ghost use Rattle.std.specs.Prelude.{◌≡◌, false, IfOk, IsOk};
+ghost use Rattle.pad_steps.specs.Formed.{is_extra};
 
-use crate::answers::{Event, Refusal};
+use crate::answers::{Answer, Event, Refusal};
 use crate::commands::{
     BlockRequest, CheckRequest, Command, CryptRequest, ExtraRequest, ImportRequest, ImportSource,
     PinRequest, Start,
@@ -19,7 +20,8 @@ fn copy_name(name: &Option<KeyName>) -> Option<KeyName>
 }
 
 impl BlockRequest {
-    fn copy(&self) -> BlockRequest
+    /// The request again, without memory.
+    pub fn copy(&self) -> BlockRequest
         ensures { result ≡ self.now }
     {
         BlockRequest {
@@ -62,8 +64,10 @@ impl ExtraRequest {
 }
 
 impl PinRequest {
-    fn copy(&self, alloc: Global) -> Result<PinRequest, NoMemory>
-        ensures { IfOk result (λ request. request ≡ self.now) }
+    /// The request again. It fails for want of memory alone, and takes none for a block and a check.
+    pub fn copy(&self, alloc: Global) -> Result<PinRequest, NoMemory>
+        ensures copied { IfOk result (λ request. request ≡ self.now) }
+        ensures memory { is_extra self.now ≡ false → IsOk result }
     {
         match self {
             PinRequest::Block(request) => Ok(PinRequest::Block(request.copy())),
@@ -185,6 +189,26 @@ impl Refusal {
             Refusal::Timeout => Refusal::Timeout,
             Refusal::InvalidReqId => Refusal::InvalidReqId,
             Refusal::NotLocked => Refusal::NotLocked,
+        }
+    }
+}
+
+impl Answer {
+    /// The answer again. It fails for want of memory alone.
+    pub fn copy(&self, alloc: Global) -> Result<Answer, NoMemory>
+        ensures { IfOk result (λ answer. answer ≡ self.now) }
+    {
+        match self {
+            Answer::Done => Ok(Answer::Done),
+            Answer::Entered(count, completion) => Ok(Answer::Entered(*count, *completion)),
+            Answer::Figures(digits, completion) => Ok(Answer::Figures(digits.copy(), *completion)),
+            Answer::Part(count, completion, check) => Ok(Answer::Part(*count, *completion, *check)),
+            Answer::Block(block) => Ok(Answer::Block(*block)),
+            Answer::Wide(left, right) => Ok(Answer::Wide(*left, *right)),
+            Answer::Checked(holds) => Ok(Answer::Checked(*holds)),
+            Answer::Crypt(bytes) => Ok(Answer::Crypt(Octets::copy(alloc, bytes.items())?)),
+            Answer::Mac(code) => Ok(Answer::Mac(*code)),
+            Answer::Key(check) => Ok(Answer::Key(*check)),
         }
     }
 }

@@ -5,11 +5,12 @@ pub mod accounts;
 pub mod answers;
 pub mod commands;
 mod copies;
-pub mod formed;
+mod formed;
 pub mod lists;
 pub mod steps;
+mod today;
 
-pub use accounts::is_pan;
+pub use accounts::{are_decimal, is_pan};
 pub use answers::{
     Answer, Completion, Event, KeyView, Out, Refusal, Reply, Shown, StatusView, Told,
 };

@@ -112,11 +112,12 @@ impl Model for Outs {
 }
 
 impl Outs {
-    /// No outs, with room for a few.
+    /// No outs, with room for a reply and an event to each of sixteen sessions.
     pub fn new(alloc: Global) -> Result<Outs, NoMemory>
-        ensures { IfOk result (λ o. o.items ≡ []) }
+        ensures none { IfOk result (λ o. o.items ≡ []) }
+        ensures room { IfOk result (λ o. 17 ≤ o.spare) }
     {
-        match Vec::with_capacity(alloc, 4) {
+        match Vec::with_capacity(alloc, 17) {
             Ok(list) => Ok(Outs { list }),
             Err(_) => Err(NoMemory),
         }
