@@ -12,11 +12,9 @@ use Rattle.std.specs.Prelude.{Bool, Err, None, Ok, Option, Result, Some, false, 
 
 -- the algorithm gives a message authentication code
 abbrev pub is_mac : Algorithm → Bool
-is_mac mode.Ecb = false
-is_mac mode.Cbc = false
-is_mac mode.Cfb = false
 is_mac mode.Mac = true
 is_mac mode.Retail = true
+is_mac other = false
 
 -- the direction is to decrypt
 abbrev pub is_decrypt : Direction → Bool
@@ -25,11 +23,9 @@ is_decrypt way.Decrypt = true
 
 -- the algorithm gives an authentication code, and the key has not the length that this code wants
 abbrev pub wrong_mac_key : Algorithm → ℕ → Bool
-wrong_mac_key mode.Ecb size = false
-wrong_mac_key mode.Cbc size = false
-wrong_mac_key mode.Cfb size = false
 wrong_mac_key mode.Mac size = not (is_mac_key_length Single size)
 wrong_mac_key mode.Retail size = not (is_mac_key_length Retail size)
+wrong_mac_key other size = false
 
 -- there are no bytes, or the bytes to decrypt are no whole blocks
 abbrev pub wrong_length : Direction → ℕ → Bool
@@ -46,3 +42,8 @@ IsFault fault (Ok value) = fault ≡ None
 IsFault fault (Err NoMemory) = Unit {0}
 IsFault fault (Err InvalidKeyLength) = fault ≡ Some InvalidKeyLength
 IsFault fault (Err LengthError) = fault ≡ Some LengthError
+
+-- bytes are to be answered: the request is not refused, and asks for no authentication code
+pub record AnswersBytes (request : CryptRequest) (size : ℕ) : Type 0 where
+  pub taken : crypt_fault request size ≡ None
+  pub no_code : is_mac request.algorithm ≡ false

@@ -6,7 +6,7 @@ ghost use Rattle.std.specs.Option.{option_copied};
 ghost use Rattle.cbc_mac.specs.Modes.{padded};
 ghost use Rattle.cbc_mac.specs.Macs.{code_of, is_mac_key_length};
 ghost use Rattle.crypt_commands.specs.Crypts.{crypt_out, padded_to, sealing_key, start_block};
-ghost use Rattle.crypt_commands.specs.Faults.{IsFault, crypt_fault, wrong_length, wrong_mac_key};
+ghost use Rattle.crypt_commands.specs.Faults.{AnswersBytes, IsFault, crypt_fault, wrong_length, wrong_mac_key};
 ghost use Rattle.des_core.specs.TripleDes.{tdea_back_bytes, tdea_bytes};
 ghost use Rattle.pad_steps.specs.declared.commands.Algorithm.TheVariants.{Cfb};
 
@@ -51,6 +51,7 @@ pub fn run_crypt(
     requires submitted { request.now.algorithm ≢ Cfb }
     requires sealed { is_some start_key ≡ is_some (sealing_key request.now.start) }
     ensures fault { IsFault (crypt_fault request.now (length key.now)) result }
+    ensures memory { IfErr result (λ fault. fault ≡ CryptFault.NoMemory → AnswersBytes request.now (length key.now)) }
     ensures out { IfOk result (λ out. out ≡ crypt_out tdea_bytes tdea_back_bytes request.now request.now.algorithm key.now (start_block tdea_bytes tdea_back_bytes request.now.start (option_copied start_key.entry))) }
 {
     if has_wrong_key(request.algorithm, key) {

@@ -47,6 +47,7 @@ calls_then n m s t u fault first second = record {
   cuts = omega (arith, first.cuts, second.cuts);
   failed = λ e. omega (arith, first.faults, second.failed e);
   cut = λ on e. omega (arith, first.cuts, second.cut first.now_off e);
+  done = λ e. let before = first.done refl in let after = second.done e in record { faults = after.faults ∙ before.faults; cuts = after.cuts ∙ before.cuts };
   was_off = λ off. absurd (let e : None ≡ Some Off = first.was_off off in cc);
   now_off = second.now_off;
   tells = second.tells ∙ first.tells;
@@ -77,6 +78,7 @@ calls_more n m s t e first = record {
   cuts = first.cuts;
   failed = first.failed;
   cut = first.cut;
+  done = first.done;
   was_off = first.was_off;
   now_off = first.now_off;
   tells = first.tells;
@@ -96,6 +98,7 @@ calls_none s laws on = record {
   cuts = omega arith;
   failed = λ e. absurd (cc);
   cut = λ _ e. absurd (cc);
+  done = λ _. record { faults = refl; cuts = refl };
   was_off = λ off. absurd (let e : true ≡ false = sym off ∙ on in cc);
   now_off = on;
   tells = refl;

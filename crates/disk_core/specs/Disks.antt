@@ -44,6 +44,11 @@ abbrev pub ObeysArming : ℕ → Option (Option Arming) → Option (Option Armin
 ObeysArming n None new fault = new ≡ None
 ObeysArming n (Some a) new fault = (new ≡ Some (armed_after n a)) × (fault ≡ struck_within n a)
 
+-- both counts stay
+pub record KeepsCounts (s t : DiskState) : Type 0 where
+  pub faults : t.faults ≡ s.faults
+  pub cuts : t.cuts ≡ s.cuts
+
 -- n calls that led from s to t, of which the last may have answered a fault
 pub record DeviceCalls (n : ℕ) (s t : DiskState) (fault : Option DiskError) : Type 0 where
   -- no count falls, and each fault has its cause
@@ -51,6 +56,8 @@ pub record DeviceCalls (n : ℕ) (s t : DiskState) (fault : Option DiskError) : 
   pub cuts : s.cuts ≤ t.cuts
   pub failed : fault ≡ Some Failed → Rose s.faults t.faults
   pub cut : s.off ≡ false → fault ≡ Some Off → Rose s.cuts t.cuts
+  -- where no call answered a fault, both counts stay
+  pub done : fault ≡ None → KeepsCounts s t
   -- a disk that is off answers so, and an answer of it is what makes it off
   pub was_off : s.off ≡ true → fault ≡ Some Off
   pub now_off : t.off ≡ is_cut fault
@@ -81,11 +88,6 @@ pub record Syncs (s t : DiskState) (fault : Option DiskError) : Type 0 where
   pub content : KeepsContent s t
   pub image : Shrinks s t
   pub durable : fault ≡ None → IfSome s.content (λ c. IsOnlyImage c t)
-
--- both counts stay
-pub record KeepsCounts (s t : DiskState) : Type 0 where
-  pub faults : t.faults ≡ s.faults
-  pub cuts : t.cuts ≡ s.cuts
 
 -- the disk goes off, or stays so
 pub record StopsDisk (s t : DiskState) : Type 0 where

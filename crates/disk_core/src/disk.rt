@@ -46,7 +46,7 @@ pub enum Strike {
 
 /// A disk of [`DISK_BYTES`] bytes.
 ///
-/// A count of faults or cuts never falls, and stands still at 2^64 - 1. A disk goes off only by
+/// A count of faults or cuts never falls, stays where a call succeeds, and stands still at 2^64 - 1. A disk goes off only by
 /// [`PowerDisk::off`] or by a call that answers [`DiskError::Off`], and every call of a disk that is off answers so.
 /// A disk that tells what is armed fails and cuts as it is armed and in no other way.
 pub trait Disk {

@@ -1,5 +1,5 @@
 //! A disk in memory, of which each call can be made to fail and each power cut to tear what is not synced.
-ghost use Rattle.std.specs.Prelude.{◌≡◌, ◌+◌, ◌≤◌, length, Some, replicate, true, false};
+ghost use Rattle.std.specs.Prelude.{◌≡◌, ◌+◌, ◌≤◌, length, slice_range, OnErr, Some, replicate, true, false};
 ghost use Rattle.std.specs.Option.{ForSome};
 ghost use Rattle.disk_core.specs.declared.disk.TheConstants.{DISK_BYTES};
 ghost use Rattle.disk_core.specs.DiskStates.{splice, IsOnlyImage};
@@ -97,10 +97,10 @@ impl Disk for MemDisk {
         ensures calls { DeviceCalls 1 (memory_state (memory_of self.old)) (memory_state (memory_of self.new)) (fault_in result) }
         ensures step { Reads at buf.new (memory_state (memory_of self.old)) (memory_state (memory_of self.new)) (fault_in result) }
         ensures effect { HasReadEffect (memory_of self.old) (memory_of self.new) }
+        ensures untouched { OnErr result (buf.new ≡ buf.old) }
     {
         self.call(0, &[])?;
-        let at = at as usize;
-        buf.copy_from_slice(&self.bytes[at..at + buf.len()]);
+        read_from(&self.bytes, at as usize, buf);
         Ok(())
     }
 
@@ -168,6 +168,14 @@ fn sync_all(synced: &mut [u8], bytes: &[u8], dirty: &mut [bool])
 {
     synced.copy_from_slice(bytes);
     dirty.fill(false);
+}
+
+// Reads a range.
+fn read_from(bytes: &[u8], at: usize, buf: &mut [u8])
+    requires { at + length buf.old ≤ length bytes.now }
+    ensures { buf.new ≡ slice_range bytes.now at (at + length buf.old) }
+{
+    buf.copy_from_slice(&bytes[at..at + buf.len()]);
 }
 
 // Writes into a range, which is then not synced.

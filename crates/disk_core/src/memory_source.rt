@@ -63,6 +63,10 @@ impl Source for MemSource {
         ensures amount { IfOk result (λ n. n ≡ min (min (length self.old.left) (length piece.old)) self.old.piece) }
         ensures ok { IfOk result (λ n. self.new ≡ record self.old { left = drop n self.old.left; calls = next_count self.old.calls }) }
         ensures err { OnErr result (self.new ≡ record self.old { calls = next_count self.old.calls; faults = next_count self.old.faults }) }
+
+        // What stays of the piece: all that stands behind the bytes that it was given, and the whole after a failure.
+        ensures behind { IfOk result (λ n. drop n piece.new ≡ drop n piece.old) }
+        ensures untouched { OnErr result (piece.new ≡ piece.old) }
     {
         self.calls = self.calls.saturating_add(1);
         if self.fails.has(self.calls) {

@@ -11,7 +11,7 @@ pub struct Failed;
 pub trait Source {
     /// The bytes that are left, where the source tells them.
     ghost left: { Self → Option (List ℕ) };
-    /// How many calls failed, up to 2^64 - 1, where the count stands still. It never falls.
+    /// How many calls failed, up to 2^64 - 1, where the count stands still. It never falls, and stays where a call succeeds.
     ghost faults: { Self → ℕ };
 
     /// Puts the next bytes at the front of the piece, and answers how many. No bytes for a piece that is
@@ -25,7 +25,7 @@ pub trait Source {
 pub trait Sink {
     /// The bytes given, where the sink tells them.
     ghost given: { Self → Option (List ℕ) };
-    /// How many calls failed, up to 2^64 - 1, where the count stands still. It never falls.
+    /// How many calls failed, up to 2^64 - 1, where the count stands still. It never falls, and stays where a call succeeds.
     ghost faults: { Self → ℕ };
 
     /// Takes bytes from the front of the piece, and answers how many: none of a piece that is not empty

@@ -7,7 +7,7 @@ ghost use Rattle.key_import.specs.Imports.{decide_import, given_bytes, new_row, 
 
 use crate::ImportFault;
 use crate::values::{joined, unsealed};
-use key_attributes::{KeyRow, KeyValue, Uses};
+use key_attributes::{KeyRow, KeyValue, Uses, plain_uses};
 use pad_steps::{ImportRequest, ImportSource};
 
 /// The row that an import makes, or the first fault that applies. `target` is the row of the request's name, if the name is
@@ -66,7 +66,7 @@ fn refuses(old: Option<&KeyRow>, request: &ImportRequest) -> bool
         return false;
     };
     let is_part = matches!(request.source, ImportSource::Part);
-    old.uses.plain() != request.uses % 64
+    old.uses.plain() != plain_uses(request.uses)
         || (old.uses.has_construct() && is_part)
         || (old.uses.has_secure_construct() && !is_part)
 }

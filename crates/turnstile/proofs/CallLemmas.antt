@@ -26,14 +26,14 @@ module _ {X O R : Type 0} where
     pub begins : (v : PassView O R) (t : ℕ) (m m2 : SeatState X O R) → m ≡ (record v { stage = Waiting t }, []) → GotTurn stands legal status m m2 → Begun stands legal status v m2
     begins v t m m2 at turned =
         let tu = subst (λ y. GotTurn stands legal status y m2) at turned in record {
-          held = tu.0;
-          begun = λ i. (tu.3 i, tu.1 i);
-          fits = tu.2;
-          later = tu.4;
-          short = tu.5;
-          lawful = tu.6;
-          notes = tu.7;
-          known = tu.8;
+          held = tu.held;
+          begun = λ i. (tu.served i, tu.slot i);
+          fits = tu.fits;
+          later = tu.later;
+          short = tu.short;
+          lawful = tu.lawful;
+          notes = tu.notes;
+          known = tu.known;
         }
 
     pub enters : (v : PassView O R) (m : SeatState X O R) (u w2 w : PassView O R) (place : ℕ) (op : O) (outcome : R) → Begun stands legal status v m → v.stage ≡ Idle → u ≡ m.0 → w2 ≡ grown u (entry op outcome) → w ≡ record w2 { stage = Idle }

@@ -45,7 +45,7 @@ module _ {O R : Type 0} where
   begins_longer [] (x ∷ xs) (y ∷ ys) a b le = let e : [] ≡ x ∷ (xs ++ a.0) = a.1 in (cc)
   begins_longer (l ∷ log) (x ∷ xs) (y ∷ ys) a b le =
       let e : l ∷ log ≡ x ∷ (xs ++ a.0) = a.1 in let f : l ∷ log ≡ y ∷ (ys ++ b.0) = b.1 in let same : y ≡ x = cc (e, f) in
-      let rest = begins_longer log xs ys (a.0, (cc (e, f))) (b.0, (cc (e, f))) (omega arith) in (rest.0, λ i. same i ∷ rest.1 i)
+      let rest = begins_longer log xs ys (a.0, (cc e)) (b.0, (cc f)) (omega arith) in (rest.0, λ i. same i ∷ rest.1 i)
 
   pub longer_starts : (log xs ys : List (MadeEntry O R)) → StartsWith log xs → StartsWith log ys → StartsWith log (longer xs ys) × StartsWith (longer xs ys) xs × StartsWith (longer xs ys) ys
   longer_starts log xs ys a b = go (nat_lt (length xs) (length ys)) refl

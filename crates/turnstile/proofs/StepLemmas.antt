@@ -153,7 +153,7 @@ module _ {X O R : Type 0} (stands : X → List (Entry O R) → Type 0) (status :
               record { stage = (subst (λ (z : ℕ). z < r.drawn) is k.1, own, refl, refl); seen = starts_same r.log r.log refl; told = ok.told; notes = ok.notes; differ = differ; known = knows }
               (λ j y ne q. record { stage = knows_apart r.drawn r.turn r.out true r.log r.log r.owner j id y.seen own ne y.stage q.stage; seen = q.seen; told = q.told; notes = q.notes; differ = q.differ; known = q.known });
         },
-        ((λ _. (h.0, refl, h.2, refl, seen, r.short, r.lawful, ok.notes, tells r.keeper r.count r.log id (passes_known me.0) r.numbered differ knows)), λ other. absurd (other (st ∙ ap Waiting (sym hit)))),
+        ((λ _. record { held = h.0; slot = refl; fits = h.2; served = refl; later = seen; short = r.short; lawful = r.lawful; notes = ok.notes; known = tells r.keeper r.count r.log id (passes_known me.0) r.numbered differ knows }), λ other. absurd (other (st ∙ ap Waiting (sym hit)))),
       ))
       (λ miss. (me.0, keeps, tt, still s r 1 id me.1 me.0 ok, ((λ e. let same : t ≡ x = cc (sym st ∙ e) in absurd (miss (sym same))), λ _. refl)))
 

@@ -154,9 +154,16 @@ module _ {X O R : Type 0} where
   drew st m r m' = (r ≡ st.first → m' ≡ (record m.0 { stage = Waiting r }, m.1)) × (r ≢ st.first → m' ≡ m)
 
   -- the turn has come, and the slot is out with the seat
-  abbrev pub GotTurn : (X → List (Entry O R) → Type 0) → (List (Entry O R) → Type 0) → (List (Entry O R) → ℕ) → SeatState X O R → SeatState X O R → Type 0
-  GotTurn stands legal status m m' = (h : Held X O R) × (m'.1 ≡ (0, Some h) ∷ m.1) × StandsWith stands h m'.0.seen
-      × (m'.0 ≡ record m.0 { stage = Served; seen = m'.0.seen }) × StartsWith m'.0.seen m.0.seen × (length m'.0.seen ≤ 1048576) × legal (entries_of m'.0.seen) × NotesTrue status m'.0.seen m.0.notes × TellsPasses m'.0.seen (passes_known m.0)
+  pub record GotTurn (stands : X → List (Entry O R) → Type 0) (legal : List (Entry O R) → Type 0) (status : List (Entry O R) → ℕ) (m m' : SeatState X O R) : Type 0 where
+    pub held : Held X O R
+    pub slot : m'.1 ≡ (0, Some held) ∷ m.1
+    pub fits : StandsWith stands held m'.0.seen
+    pub served : m'.0 ≡ record m.0 { stage = Served; seen = m'.0.seen }
+    pub later : StartsWith m'.0.seen m.0.seen
+    pub short : length m'.0.seen ≤ 1048576
+    pub lawful : legal (entries_of m'.0.seen)
+    pub notes : NotesTrue status m'.0.seen m.0.notes
+    pub known : TellsPasses m'.0.seen (passes_known m.0)
 
   -- a look at the served turn: where it is the ticket's, the turn has come
   abbrev pub looked : (X → List (Entry O R) → Type 0) → (List (Entry O R) → Type 0) → (List (Entry O R) → ℕ) → TableStep X O R → SeatState X O R → ℕ → SeatState X O R → Type 0

@@ -1,4 +1,4 @@
--- Histories of a machine that adds: it begins at 0, and each outcome is the sum so far, in 64 bits.
+-- Histories of a machine that adds: it begins at 0, and each outcome is the sum up to it, in 64 bits.
 use Rattle.std.specs.Prelude.{◌≡◌, ℕ, ◌+◌, ◌%◌, ◌^◌, List, [], ◌∷◌, ◌++◌, refl}
 use Rattle.turnstile.specs.declared.machine.Entry.{Entry}
 use Rattle.turnstile.specs.Entries.{entry}

@@ -1,5 +1,5 @@
 //! The calls of a turn.
-ghost use Rattle.std.specs.Prelude.{◌≡◌, ◌<◌, ◌≤◌, ◌+◌, ◌*◌, ◌^◌, ◌++◌, ◌∷◌, [], length, Option, Some, None, IfOk, IfErr, OnErr};
+ghost use Rattle.std.specs.Prelude.{◌≡◌, ◌≢◌, ◌<◌, ◌≤◌, ◌+◌, ◌*◌, ◌^◌, ◌++◌, ◌∷◌, [], length, Option, Some, None, IfOk, IfErr, IfNone, IfSome, OnErr};
 ghost use Rattle.turnstile.specs.declared.view.Stage.TheVariants.{Idle, Waiting, Served};
 ghost use Rattle.turnstile.specs.declared.held.Held.{Held};
 ghost use Rattle.turnstile.specs.declared.machine.Entry.{Entry};
@@ -63,6 +63,29 @@ impl<M: Machine> Turn<M> {
         unreachable!()
     }
 
+    // Looks how many turns were served. Where the ticket is next, the slot is then out with the pass.
+    fn look(&self, pass: &mut Pass<M>, ticket: u64) -> u64
+        requires pass { pass.old.table_id ≡ self.now.table.shared.table_id }
+        requires ticket { pass.old.me.0.stage ≡ Waiting ticket }
+        ensures pass { (pass.new.table_id ≡ pass.old.table_id) × (pass.new.id ≡ pass.old.id) }
+        ensures turned { result ≡ ticket → GotTurn M.stands M.legal M.status_after pass.old.me pass.new.me }
+        ensures waits { result ≢ ticket → pass.new.me ≡ pass.old.me }
+    {
+        self.table.shared.load::<Look<M>>(pass, SERVED)
+    }
+
+    // How many turns were served, where that of the ticket has not come. Where it has, the slot is then out with the pass.
+    fn turns_before(&self, pass: &mut Pass<M>, ticket: u64) -> Option<u64>
+        requires pass { pass.old.table_id ≡ self.now.table.shared.table_id }
+        requires ticket { pass.old.me.0.stage ≡ Waiting ticket }
+        ensures pass { (pass.new.table_id ≡ pass.old.table_id) × (pass.new.id ≡ pass.old.id) }
+        ensures turned { IfNone result (GotTurn M.stands M.legal M.status_after pass.old.me pass.new.me) }
+        ensures waits { IfSome result (λ _. pass.new.me ≡ pass.old.me) }
+    {
+        let served = self.look(pass, ticket);
+        if served == ticket { None } else { Some(served) }
+    }
+
     // Waits until the ticket is served. The slot is then out with the pass.
     fn await_turn<W: Wait>(&self, rt: &W, pass: &mut Pass<M>, ticket: u64)
         requires pass { (pass.old.table_id ≡ self.now.table.shared.table_id) × (pass.old.me.1 ≡ []) }
@@ -70,13 +93,13 @@ impl<M: Machine> Turn<M> {
         ensures pass { (pass.new.table_id ≡ pass.old.table_id) × (pass.new.id ≡ pass.old.id) }
         ensures turned { GotTurn M.stands M.legal M.status_after pass.old.me pass.new.me }
     {
-        let shared = &self.table.shared;
         for _ in rt.forever() {
-            let served = shared.load::<Look<M>>(pass, SERVED);
-            if served == ticket {
+            let Some(served) = self.turns_before(pass, ticket) else {
                 return;
-            }
-            shared.park(rt, SERVED, (served % (1 << 32)) as u32);
+            };
+            self.table
+                .shared
+                .park(rt, SERVED, (served % (1 << 32)) as u32);
         }
         unreachable!()
     }
@@ -233,6 +256,25 @@ impl<M: Machine> Turn<M> {
         self.table.shared.split_seat::<Seating>(pass)
     }
 
+    // Takes another pass in. What that one has seen is told to this one.
+    fn take_in(&self, pass: &mut Pass<M>, other: Pass<M>)
+        requires pass { IsPassOf self.now pass.old }
+        requires other { IsPassOf self.now other }
+        ensures pass { IsPassOf self.now pass.new }
+        ensures joined { view pass.new ≡ joined (view pass.old) (view other) }
+    {
+        self.table.shared.join_seat::<Seating>(pass, other);
+    }
+
+    // Compares what the pass has seen with what it was told.
+    fn settle(&self, pass: &mut Pass<M>)
+        requires { IsPassOf self.now pass.old }
+        ensures pass { IsPassOf self.now pass.new }
+        ensures settled { Settled (view pass.old) (view pass.new) }
+    {
+        self.table.shared.load::<Settle>(pass, DRAWN);
+    }
+
     /// Takes another pass in. What the longer of the two has seen is kept, which begins with what each has; so are the notes
     /// of both, and the passes that the other knew, itself among them.
     pub fn join(&self, pass: &mut Pass<M>, other: Pass<M>)
@@ -241,8 +283,8 @@ impl<M: Machine> Turn<M> {
         ensures pass { IsPassOf self.now pass.new }
         ensures joined { Settled (joined (view pass.old) (view other)) (view pass.new) }
     {
-        self.table.shared.join_seat::<Seating>(pass, other);
-        self.table.shared.load::<Settle>(pass, DRAWN);
+        self.take_in(pass, other);
+        self.settle(pass);
     }
 
     /// Waits for a last turn, and gives the machine and the whole history. The promise holds if the call returns.

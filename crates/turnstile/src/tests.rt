@@ -4,8 +4,12 @@ mod callers;
 
 use crate::{CallFault, Entry, Turn};
 use adder::Adder;
-use callers::{add_and_close, add_on_threads};
+use callers::{add_all, add_and_close, add_on_threads, add_watched};
 use std::test::Fail;
+use std::time::{Duration, Instant};
+
+/// Rounds of the adder for which a turn takes some tenths of a millisecond.
+const ROUNDS: u32 = 300_000;
 
 // Whether each outcome is the one before it and its operation added.
 fn are_running_sums(entries: &[Entry<u64, u64>]) -> bool {
@@ -21,7 +25,7 @@ fn are_running_sums(entries: &[Entry<u64, u64>]) -> bool {
 
 #[test]
 fn two_passes_share_one_history(rt: HostRuntime) -> Result<(), Fail> {
-    let Ok((turn, mut one)) = Turn::new(rt.alloc(), Adder { total: 0 }) else {
+    let Ok((turn, mut one)) = Turn::new(rt.alloc(), Adder::new(0)) else {
         panic!(rt; "a turn")
     };
     let mut two = turn.seat(&mut one);
@@ -43,7 +47,7 @@ fn two_passes_share_one_history(rt: HostRuntime) -> Result<(), Fail> {
 
 #[test]
 fn two_threads_add(rt: HostRuntime) -> Result<(), Fail> {
-    let Ok((turn, pass)) = Turn::new(rt.alloc(), Adder { total: 0 }) else {
+    let Ok((turn, pass)) = Turn::new(rt.alloc(), Adder::new(0)) else {
         panic!(rt; "a turn")
     };
     let pass = add_on_threads(&rt, &turn, pass, 1, 1000);
@@ -55,7 +59,7 @@ fn two_threads_add(rt: HostRuntime) -> Result<(), Fail> {
 
 #[test]
 fn sixteen_threads_add(rt: HostRuntime) -> Result<(), Fail> {
-    let Ok((turn, pass)) = Turn::new(rt.alloc(), Adder { total: 0 }) else {
+    let Ok((turn, pass)) = Turn::new(rt.alloc(), Adder::new(0)) else {
         panic!(rt; "a turn")
     };
     let (adder, history) = add_and_close(&rt, turn, pass, 500);
@@ -64,9 +68,28 @@ fn sixteen_threads_add(rt: HostRuntime) -> Result<(), Fail> {
     Ok(())
 }
 
+// A thread that waits and is not woken stops all those behind it, so that no call is entered any more.
+#[test]
+fn sixteen_threads_are_woken(rt: HostRuntime) -> Result<(), Fail> {
+    let Ok((turn, pass)) = Turn::new(rt.alloc(), Adder::new(ROUNDS)) else {
+        panic!(rt; "a turn")
+    };
+    let start = Instant::now(&rt)?;
+    let _pass = add_all(&rt, &turn, pass, 20);
+    let one_turn = start.elapsed(&rt)? / 20;
+    let patience = one_turn.saturating_mul(300).max(Duration::from_secs(10));
+    let Ok((turn, pass)) = Turn::new(rt.alloc(), Adder::new(ROUNDS)) else {
+        panic!(rt; "a turn")
+    };
+    let pass = add_watched(&rt, &turn, pass, 25, 400, patience);
+    let (_adder, history) = turn.close(&rt, pass);
+    assert!(rt; history.items().len() == 400);
+    Ok(())
+}
+
 #[test]
 fn a_full_history_refuses(rt: HostRuntime) -> Result<(), Fail> {
-    let Ok((turn, mut pass)) = Turn::new(rt.alloc(), Adder { total: 0 }) else {
+    let Ok((turn, mut pass)) = Turn::new(rt.alloc(), Adder::new(0)) else {
         panic!(rt; "a turn")
     };
     for _ in 0..1_048_576 {

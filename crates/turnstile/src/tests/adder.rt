@@ -1,10 +1,36 @@
 //! A machine that adds what it is given.
+ghost use Rattle.std.specs.Prelude.{◌≡◌};
+
 use crate::machine::{Entry, Machine};
 use pad_words::NoMemory;
 
+/// Beside the total, it goes so many rounds of a generator at each operation, for which it takes its time.
 #[derive(Drop)]
 pub struct Adder {
     pub total: u64,
+    rounds: u32,
+    word: u64,
+}
+
+impl Adder {
+    pub fn new(rounds: u32) -> Adder
+        ensures { result.total ≡ 0 }
+    {
+        Adder {
+            total: 0,
+            rounds,
+            word: 1,
+        }
+    }
+}
+
+// The word after so many rounds.
+fn word_after(rounds: u32, word: u64) -> u64 {
+    let mut word = word;
+    for _ in 0..rounds {
+        word = word.wrapping_mul(6364136223846793005).wrapping_add(1);
+    }
+    word
 }
 
 impl Machine for Adder {
@@ -29,6 +55,7 @@ impl Machine for Adder {
     ghost legal_if = { λ m h st. st.0 };
 
     fn apply(&mut self, op: &u64) -> Result<(u64, u64), NoMemory> {
+        self.word = word_after(self.rounds, self.word);
         self.total = self.total.wrapping_add(*op);
         Ok((self.total, self.total))
     }

@@ -11,8 +11,11 @@ ghost use Rattle.turnstile.specs.Turns.{IsPassOf, view};
 use super::adder::Adder;
 use crate::laws::joined_passes_are_whole;
 use crate::{History, Pass, Turn};
+use std::process::Abort;
 use std::sync::Wait;
+use std::thread;
 use std::thread::{Threads, join};
+use std::time::{Clock, Duration, Instant};
 
 /// Adds each number below the count, and gives the pass back.
 pub fn add_all<W: Wait>(
@@ -79,4 +82,75 @@ pub fn add_and_close<R: Threads + Wait + Sync>(
     joined_passes_are_whole::<Adder>();
     let pass = add_on_threads(rt, &turn, pass, 4, count);
     turn.close(rt, pass)
+}
+
+/// Glances until the history has this many entries, and fails where none is entered for longer than `patience`.
+pub fn watch<R: Wait + Clock + Abort>(
+    rt: &R,
+    turn: &Turn<Adder>,
+    mut pass: Pass<Adder>,
+    whole: u32,
+    patience: Duration,
+) -> Pass<Adder>
+    requires { IsPassOf turn.now pass }
+    ensures { IsPassOf turn.now result }
+{
+    let mut length = 0;
+    let mut entered = clock(rt);
+    for _ in rt.forever() {
+        let glance = turn.glance(&mut pass);
+        if glance.length >= whole {
+            break;
+        }
+        if glance.length != length {
+            length = glance.length;
+            entered = clock(rt);
+        } else if has_passed(rt, entered, patience) {
+            panic!(rt; "no call was entered for {} seconds", patience.as_secs());
+        }
+        thread::sleep(rt, Duration::from_millis(1));
+    }
+    pass
+}
+
+fn clock<R: Clock + Abort>(rt: &R) -> Instant {
+    match Instant::now(rt) {
+        Ok(now) => now,
+        Err(_) => panic!(rt; "a clock"),
+    }
+}
+
+fn has_passed<R: Clock + Abort>(rt: &R, since: Instant, time: Duration) -> bool {
+    match since.elapsed(rt) {
+        Ok(elapsed) => elapsed > time,
+        Err(_) => panic!(rt; "a clock"),
+    }
+}
+
+/// Sixteen threads add, while one more watches that calls are entered.
+pub fn add_watched<R: Threads + Wait + Clock + Abort + Sync>(
+    rt: &R,
+    turn: &Turn<Adder>,
+    mut pass: Pass<Adder>,
+    count: u64,
+    whole: u32,
+    patience: Duration,
+) -> Pass<Adder>
+    requires { IsPassOf turn.now pass }
+    ensures { IsPassOf turn.now result }
+{
+    let watching = turn.seat(&mut pass);
+    let (mut pass, watched) = join(
+        rt,
+        || -> Pass<Adder>
+            requires { IsSync R.row × IsPassOf turn.now pass }
+            ensures { IsPassOf turn.entry.now result }
+        { add_on_threads(rt, turn, pass, 4, count) },
+        || -> Pass<Adder>
+            requires { IsSync R.row × IsPassOf turn.now watching }
+            ensures { IsPassOf turn.entry.now result }
+        { watch(rt, turn, watching, whole, patience) },
+    );
+    turn.join(&mut pass, watched);
+    pass
 }

@@ -7,7 +7,7 @@ abbrev pub invariant-loop-at : goal.invariant-loop-at
 invariant-loop-at g l = record {
   within : l.at ≤ length l.bytes;
   given : counted_given g.K.Sink.given l.sink ≡ with_more (counted_given g.K.Sink.given l.fn.sink) (take l.at l.bytes);
-  later : counted_faults g.K.Sink.faults l.fn.sink ≤ counted_faults g.K.Sink.faults l.sink;
+  same : counted_faults g.K.Sink.faults l.sink ≡ counted_faults g.K.Sink.faults l.fn.sink;
 }
 
 abbrev pub decreases-loop-at : goal.decreases-loop-at

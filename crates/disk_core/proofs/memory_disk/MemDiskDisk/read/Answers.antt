@@ -1,4 +1,5 @@
-use Rattle.std.proofs.Common.{◌≡◌, ◌∙◌, ap, refl, ◌+◌, arith, ◌-◌, length, ℕ, take, drop}
+use Rattle.std.proofs.Common.{◌≡◌, ◌∙◌, ap, refl, ◌+◌, arith, length, ℕ}
+use Rattle.std.specs.Prelude.{slice_range}
 use Rattle.disk_core.specs.Disks.{Reads}
 use Rattle.disk_core.specs.DiskMemories.{memory_state}
 use Rattle.disk_core.specs.MemoryDisks.{memory_of}
@@ -11,5 +12,5 @@ returns-in_err-call-clause-step c =
     (read_failed (memory_state (memory_of c.args.self.now)) (memory_state (memory_of c.call.new.self)) _ _ refl refl _ c.in_err-call.ensures.calls c.in_err-call.ensures.step c.args.at c.args.buf.now (λ none. cc))
 
 pub returns-clause-step : goal.returns-clause-step
-returns-clause-step c = read_given (memory_state (memory_of c.args.self.now)) (memory_state (memory_of c.call.new.self)) _ _ refl refl _ c.in_ok-call.ensures.calls c.in_ok-call.ensures.step c.args.at c.copy_from_slice.new.self
-    (c.copy_from_slice.ensures.after ∙ (let e : c.args.at + length c.args.buf.now - c.args.at ≡ c.args.at + length c.copy_from_slice.new.self - c.args.at = omega arith in ap (λ (n : ℕ). take n (drop c.args.at c.call.new.self.bytes)) e))
+returns-clause-step c = read_given (memory_state (memory_of c.args.self.now)) (memory_state (memory_of c.call.new.self)) _ _ refl refl _ c.in_ok-call.ensures.calls c.in_ok-call.ensures.step c.args.at c.read_from.new.buf
+    (c.read_from.ensures ∙ (let e : c.args.at + length c.args.buf.now ≡ c.args.at + length c.read_from.new.buf = omega (arith, c.read_from.auto.buf) in ap (λ (n : ℕ). slice_range c.call.new.self.bytes c.args.at n) e))
