@@ -14,7 +14,7 @@ name_fits n b h = grind (arith, nat_tests)
 value_fits : (n : ℕ) → IsTrue (is_key_length n) → n ≤ 24
 value_fits n h = grind (arith, nat_tests)
 
-uses_fit : (n : ℕ) (b c : Bool) → IsTrue (nat_lt n 256 && b && c) → n < 256
+uses_fit : (n : ℕ) (b c : Bool) → IsTrue (nat_lt n 2048 && b && c) → n < 2048
 uses_fit n b c h = grind (arith, nat_tests)
 
 module _ (row : KeyRow) (name_le : length row.name ≤ 32) where
@@ -60,7 +60,7 @@ row_in-spelled row is = λ i. record { name = name_in row fits i; value = value 
     fits : length row.name ≤ 32
     fits = name_fits (length row.name) _ is.0
 
-    low : row.uses < 256
+    low : row.uses < 2048
     low = uses_fit row.uses _ _ is.2
 
     value : take (slice_index (spelled (Some row)) 36) (drop 37 (spelled (Some row))) ≡ row.value

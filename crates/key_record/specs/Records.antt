@@ -4,7 +4,7 @@ use Rattle.key_attributes.specs.declared.KeyRow.{KeyRow}
 use Rattle.pad_words.specs.KeyLengths.{is_key_length}
 use Rattle.pad_words.specs.Names.{is_key_name}
 use Rattle.std.specs.Int.{from_be_bytes, to_be_bytes, w16}
-use Rattle.std.specs.Prelude.{IsTrue, List, None, Option, Some, [], drop, length, replicate, slice_index, take, ℕ, ◌++◌, ◌-◌, ◌∷◌}
+use Rattle.std.specs.Prelude.{Bool, IsTrue, List, None, Option, Some, [], bytes_eq, drop, if◌then◌else◌, length, replicate, slice_index, take, ℕ, ◌&&◌, ◌++◌, ◌-◌, ◌∷◌}
 
 -- bytes, and zero bytes behind them up to a size
 abbrev pub padded : ℕ → List ℕ → List ℕ
@@ -28,3 +28,15 @@ row_in cell = record {
   value = take (slice_index cell 36) (drop 37 cell);
   uses = from_be_bytes w16 (slice_index cell 34 ∷ slice_index cell 35 ∷ []);
 }
+
+-- name, value and uses are valid
+abbrev pub is_row : KeyRow → Bool
+is_row row = is_key_name row.name && (is_key_length (length row.value) && uses_valid row.uses)
+
+-- the record of no row
+unfoldable pub empty_record : List ℕ
+empty_record = spelled None
+
+-- what 96 bytes are: the empty record, the record of the row that their fields tell, or no record
+unfoldable pub record_of : List ℕ → Option (Option KeyRow)
+record_of cell = if bytes_eq cell empty_record then Some None else (if is_row (row_in cell) && bytes_eq cell (spelled (Some (row_in cell))) then Some (Some (row_in cell)) else None)

@@ -1,7 +1,7 @@
 //! A record read as a row.
-ghost use Rattle.std.specs.Prelude.{◌≡◌, ◌≢◌, ◌+◌, ◌<◌, ◌≤◌, ◌↔◌, IfNone, IfOk, IfSome, IsTrue, MatchOption, Ok, OnErr, Option, Some, drop, length, take};
+ghost use Rattle.std.specs.Prelude.{◌≡◌, ◌≢◌, ◌+◌, ◌<◌, ◌≤◌, ◌↔◌, IfNone, IfOk, IfSome, IsTrue, MatchOption, None, Ok, OnErr, Option, Some, drop, length, take};
 ghost use Rattle.key_attributes.specs.declared.KeyRow.{KeyRow};
-ghost use Rattle.key_record.specs.Records.{IsRow, row_in, spelled};
+ghost use Rattle.key_record.specs.Records.{IsRow, record_of, row_in, spelled};
 
 use crate::{RECORD_BYTES, write_record};
 use key_attributes::{KeyRow, KeyValue, Uses};
@@ -13,6 +13,8 @@ pub struct OutsideGrammar;
 
 /// The row of a record, none where it is the empty one. Refused exactly where the bytes are the record of no row.
 pub fn read_record(cell: &[u8; RECORD_BYTES]) -> Result<Option<KeyRow>, OutsideGrammar>
+    ensures record { IfOk result (λ row. record_of cell.now ≡ Some row) }
+    ensures none { OnErr result (record_of cell.now ≡ None) }
     ensures ok { IfOk result (λ row. IsRow row × (cell.now ≡ spelled row)) }
     ensures err { OnErr result ((row : Option KeyRow) → IsRow row → cell.now ≢ spelled row) }
     ensures written { (row : Option KeyRow) → IsRow row → cell.now ≡ spelled row → result ≡ Ok row }

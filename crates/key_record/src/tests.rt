@@ -41,7 +41,7 @@ const LONG: [u8; RECORD_BYTES] = [
     b'A', b'B', b'C', b'D', b'E', b'F', b'G', b'H', b'I', b'J', b'K', b'L', b'M', // the name
     b'N', b'O', b'P', b'Q', b'R', b'S', b'T', b'U', b'V', b'W', b'X', b'Y', b'Z', //
     b'0', b'1', b'2', b'3', b'4', b'5', //
-    0, 0x9F, // the uses
+    3, 0x9F, // the uses
     24, // the length of the value
     0, 1, 2, 3, 4, 5, 6, 7, 8, 9, 10, 11, 12, 13, 14, 15, 16, 17, 18, 19, 20, 21, 22, 23, //
     0, 0, 0, 0, 0, 0, 0, 0, 0, 0, 0, 0, 0, 0, 0, 0, 0, 0, // zeros
@@ -69,7 +69,7 @@ const ROWS: &[Row] = &[
         value: &[
             0, 1, 2, 3, 4, 5, 6, 7, 8, 9, 10, 11, 12, 13, 14, 15, 16, 17, 18, 19, 20, 21, 22, 23,
         ],
-        uses: 0x9F,
+        uses: 0x39F,
         record: LONG,
     },
 ];
@@ -127,10 +127,11 @@ const FAULTS: &[(usize, u8)] = &[
     // a byte behind the name
     (6, b'S'),
     (33, 1),
-    // no uses, both construct bits and a ninth bit
+    // no uses, both construct bits, AES beside another use, and a twelfth bit
     (35, 0),
     (35, 0xC4),
-    (34, 1),
+    (34, 4),
+    (34, 8),
     // the length of the value
     (36, 9),
     // a byte behind the value

@@ -1,15 +1,17 @@
 //! A row written as a record.
-ghost use Rattle.std.specs.Prelude.{◌≡◌, ◌+◌, ◌++◌, ◌≤◌, Some, length, take};
+ghost use Rattle.std.specs.Prelude.{◌≡◌, ◌+◌, ◌++◌, ◌≤◌, IsTrue, Some, length, take};
 ghost use Rattle.std.specs.Int.{to_be_bytes, w16};
 ghost use Rattle.std.specs.Option.{option_copied};
-ghost use Rattle.key_record.specs.Records.{padded, spelled};
+ghost use Rattle.key_attributes.specs.UseBits.{uses_valid};
+ghost use Rattle.key_record.specs.Records.{IsRow, padded, spelled};
 
 use crate::RECORD_BYTES;
 use key_attributes::{KeyRow, Uses};
 
 /// Writes the record of a row, or the empty record where there is none.
 pub fn write_record(row: Option<&KeyRow>, cell: &mut [u8; RECORD_BYTES])
-    ensures { cell.new ≡ spelled (option_copied row.entry) }
+    ensures cell { cell.new ≡ spelled (option_copied row.entry) }
+    ensures valid { IsRow (option_copied row.entry) }
 {
     match row {
         Some(row) => write_row(row, cell),
@@ -18,7 +20,8 @@ pub fn write_record(row: Option<&KeyRow>, cell: &mut [u8; RECORD_BYTES])
 }
 
 fn write_row(row: &KeyRow, cell: &mut [u8; RECORD_BYTES])
-    ensures { cell.new ≡ spelled (Some row.now) }
+    ensures cell { cell.new ≡ spelled (Some row.now) }
+    ensures valid { IsRow (Some row.now) }
 {
     let name = row.name.text();
     let value = row.value.bytes();
@@ -32,7 +35,8 @@ fn write_row(row: &KeyRow, cell: &mut [u8; RECORD_BYTES])
 
 // The higher byte first.
 fn bytes_of_uses(uses: &Uses) -> [u8; 2]
-    ensures { result ≡ to_be_bytes w16 uses.now }
+    ensures bytes { result ≡ to_be_bytes w16 uses.now }
+    ensures valid { IsTrue (uses_valid uses.now) }
 {
     uses.bits().to_be_bytes()
 }

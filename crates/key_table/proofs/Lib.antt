@@ -1,6 +1,12 @@
 pub mod ChangeLemmas
+pub mod EraseLemmas
 pub mod FindLemmas
 pub mod GapLemmas
+pub mod KeyStoreLemmas
+pub mod LoadLemmas
 pub mod PlaceLemmas
 pub mod PutLemmas
+pub mod ScanLemmas
+pub mod SlotLemmas
+pub mod StoredLemmas
 pub mod TableLemmas

@@ -38,7 +38,7 @@ found_below_if : (b : Bool) (r found : SlotRow) (o : Option SlotRow) → (if b t
 found_below_if true r found o e l later = subst (λ (q : SlotRow). q.0 < 64) (same_Some r found e) l
 found_below_if false r found o e l later = later e
 
-found_below : (name : List ℕ) (rows : KeyRows) (found : SlotRow) → find_key name rows ≡ Some found → Table rows → found.0 < 64
+pub found_below : (name : List ℕ) (rows : KeyRows) (found : SlotRow) → find_key name rows ≡ Some found → Table rows → found.0 < 64
 found_below name [] found e h = cc
 found_below name (r ∷ rows) found e h = found_below_if (bytes_eq r.1.name name) r found (find_key name rows) e h.0.below (λ later. found_below name rows found later h.1)
 
@@ -120,7 +120,7 @@ slot_or_empty-slot_of name rows (Some found) slot h present e = subst (λ (n : �
   named = found_named name rows found present h;
 })
 
-slot_for-slot_of : (name : List ℕ) (rows : KeyRows) (slot : ℕ) → Table rows → slot_for name rows ≡ Some slot → IsSlotOf name rows slot
+pub slot_for-slot_of : (name : List ℕ) (rows : KeyRows) (slot : ℕ) → Table rows → slot_for name rows ≡ Some slot → IsSlotOf name rows slot
 slot_for-slot_of name rows slot h e = slot_or_empty-slot_of name rows (find_key name rows) slot h refl e
 
 -- a row in the slot of its name

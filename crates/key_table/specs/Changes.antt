@@ -17,6 +17,10 @@ abbrev pub changed : List Change → KeyRows → KeyRows
 changed [] rows = rows
 changed (change ∷ rest) rows = changed rest (put_row change.slot change.row rows)
 
+-- a slot is emptied
+abbrev pub erasure : ℕ → Change
+erasure slot = record { slot = slot; row = None }
+
 -- every occupied slot is emptied, in rising order (INITIALIZATION)
 abbrev pub erasures : KeyRows → List Change
-erasures rows = map (λ each. record { slot = each.0; row = None }) rows
+erasures rows = map (λ each. erasure each.0) rows

@@ -17,6 +17,10 @@ find_key name (first ∷ rows) = if bytes_eq first.1.name name then Some first e
 abbrev pub find_row : List ℕ → KeyRows → Option KeyRow
 find_row name rows = option_map (λ found. found.1) (find_key name rows)
 
+-- the slot of a name, if the name is present
+abbrev pub slot_of : List ℕ → KeyRows → Option ℕ
+slot_of name rows = option_map (λ found. found.0) (find_key name rows)
+
 -- the row that stands in a slot, if one does
 abbrev pub row_in : ℕ → KeyRows → Option KeyRow
 row_in slot [] = None

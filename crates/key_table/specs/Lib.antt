@@ -1,6 +1,13 @@
 pub mod Changes
 pub mod Duplicates
 pub mod KeyRows
+pub mod KeyStores
 pub mod Permits
 pub mod Places
+pub mod StoredRows
 pub mod Tables
+pub use Rattle.disk_core.specs.DiskStates
+pub use Rattle.disk_core.specs.Disks
+pub use Rattle.key_record.specs.Records
+pub use Rattle.nv_store.specs.Cells
+pub use Rattle.nv_store.specs.Stores

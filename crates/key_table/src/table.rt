@@ -1,8 +1,8 @@
 //! The table of keys.
-ghost use Rattle.std.specs.Prelude.{◌≡◌, ◌&&◌, ◌==◌, [], Err, IfErr, IfOk, IfSome, IsTrue, None, Ok, OnErr, OnOk, is_err, is_none, length};
+ghost use Rattle.std.specs.Prelude.{◌≡◌, ◌&&◌, ◌==◌, [], Err, IfErr, IfOk, IfSome, IsTrue, None, Ok, OnErr, OnOk, Some, is_err, is_none, length, vec_capacity, ◌≤◌};
 ghost use Rattle.std.specs.Option.{option_copied};
 ghost use Rattle.key_table.specs.Duplicates.{duplicate};
-ghost use Rattle.key_table.specs.KeyRows.{find_key, find_row, put_row, row_in, slot_for, with_row};
+ghost use Rattle.key_table.specs.KeyRows.{find_key, find_row, put_row, row_in, slot_for, slot_of, with_row};
 ghost use Rattle.key_table.specs.Permits.{permit};
 ghost use Rattle.key_table.specs.Tables.{is_table};
 
@@ -12,6 +12,7 @@ use key_attributes::{KeyRow, KeyValue, Use};
 use pad_words::{KeyName, NoMemory};
 use std::alloc::Global;
 use std::marker::Model;
+use std::mem::swap;
 
 /// The number of slots.
 const SLOTS: usize = 64;
@@ -138,5 +139,62 @@ impl KeyTable {
         };
         self.rows.remove(place);
         Ok(())
+    }
+
+    /// The slot of this name, if the name is present.
+    pub fn slot_of(&self, name: &KeyName) -> Option<u8>
+        ensures { result ≡ slot_of name.now self.now }
+    {
+        match place_of_name(self.rows.as_slice(), name) {
+            Some(place) => Some(self.rows[place].0),
+            None => None,
+        }
+    }
+
+    /// The slot of a row of this name: a present name keeps its slot, a new one takes the lowest empty slot. None where the
+    /// name is absent and all 64 slots are taken.
+    pub fn slot_for(&self, name: &KeyName) -> Option<u8>
+        ensures { result ≡ slot_for name.now self.now }
+    {
+        if let Some(place) = place_of_name(self.rows.as_slice(), name) {
+            return Some(self.rows[place].0);
+        }
+        let is_full = self.rows.len() == SLOTS;
+        if is_full {
+            return None;
+        }
+        let gap = place_of_gap(self.rows.as_slice());
+        Some(gap as u8)
+    }
+
+    /// The slot, which is that of its name, gets this row.
+    pub fn keep(&mut self, slot: u8, row: &KeyRow)
+        requires { slot_for row.now.name self.old ≡ Some slot }
+        ensures { self.new ≡ with_row slot row.now self.old }
+    {
+        match self.put(row) {
+            Ok(()) => {}
+            Err(TableFull) => unreachable!(),
+        }
+    }
+
+    /// Takes these rows, and gives its own for them.
+    pub(crate) fn exchange(&mut self, rows: &mut Vec<(u8, KeyRow)>)
+        requires table { IsTrue (is_table rows.old.items) }
+        requires room { 64 ≤ vec_capacity rows.old }
+        ensures taken { self.new ≡ rows.old.items }
+        ensures given { rows.new.items ≡ self.old }
+        ensures room { 64 ≤ vec_capacity rows.new }
+    {
+        swap(&mut self.rows, rows);
+    }
+
+    /// Empties the slot.
+    pub fn erase(&mut self, slot: u8)
+        ensures { self.new ≡ put_row slot None self.old }
+    {
+        if let Some(place) = place_of_slot(self.rows.as_slice(), slot) {
+            self.rows.remove(place);
+        }
     }
 }

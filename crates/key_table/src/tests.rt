@@ -151,12 +151,12 @@ fn permits(rt: HostRuntime) -> Result<(), Fail> {
     // a name, a use, and the first byte of the value or why it is denied
     let rows: [(&[u8], Use, Result<u8, Denied>); 7] = [
         (b"WHOLE", Use::Crypt, Ok(1)),
-        (b"WHOLE", Use::Function, Err(Denied::UseViolation)),
+        (b"WHOLE", Use::PinRemote, Err(Denied::UseViolation)),
         (b"PART", Use::Crypt, Err(Denied::KeyNoValue)),
-        (b"PART", Use::Function, Err(Denied::KeyNoValue)),
-        (b"SECRET", Use::Function, Err(Denied::KeyNoValue)),
+        (b"PART", Use::PinRemote, Err(Denied::KeyNoValue)),
+        (b"SECRET", Use::PinRemote, Err(Denied::KeyNoValue)),
         (b"NONE", Use::Crypt, Err(Denied::KeyNotFound)),
-        (b"NONE", Use::Function, Err(Denied::KeyNotFound)),
+        (b"NONE", Use::PinRemote, Err(Denied::KeyNotFound)),
     ];
     for (place, (name, wanted, answer)) in rows.iter().enumerate() {
         let name = KeyName::read(name).ok_or("a name")?;

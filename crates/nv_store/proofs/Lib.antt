@@ -1,3 +1,4 @@
 pub mod CellLemmas
 pub mod PlaceLemmas
 pub mod ReplaceLemmas
+pub mod TornLemmas

@@ -30,7 +30,7 @@ kept_is : (s : DiskState) (settled : Bool) (items : List ℕ) (kept : Option (Li
 kept_is s true items kept view in_step = sym view
 kept_is s false items kept view in_step = absurd (let P : Option (List ℕ) → Type 0 = IsInStep s in subst P (sym view) in_step)
 
-one_byte : (xs : List ℕ) → length xs ≡ 1 → (x : ℕ) × (xs ≡ x ∷ [])
+pub one_byte : (xs : List ℕ) → length xs ≡ 1 → (x : ℕ) × (xs ≡ x ∷ [])
 one_byte [] is = absurd (omega arith)
 one_byte (x ∷ []) is = (x, refl)
 one_byte (x ∷ y ∷ xs) is = absurd (omega (arith, is))

@@ -1,6 +1,6 @@
 -- What the bytes of a store say. The layout is this project's own: 64 selectors, and then two halves of 96 bytes for each slot, of which the selector names one by its parity.
 use Rattle.disk_core.specs.DiskStates.{TornWithin, splice}
-use Rattle.std.specs.Prelude.{List, [], slice_index, slice_range, ℕ, ◌%◌, ◌*◌, ◌+◌, ◌-◌, ◌<◌, ◌∷◌, ◌≡◌, ◌≢◌, ◌⊎◌}
+use Rattle.std.specs.Prelude.{Bool, List, [], bytes_eq, slice_index, slice_range, ℕ, ◌%◌, ◌*◌, ◌+◌, ◌-◌, ◌<◌, ◌∷◌, ◌≡◌, ◌≢◌, ◌||◌, ◌⊎◌}
 
 -- where a half of a slot begins
 abbrev pub place_of : (slot half : ℕ) → ℕ
@@ -30,6 +30,11 @@ with_cell bytes slot cell = splice (staged bytes slot cell) slot (spare bytes sl
 abbrev pub IsTorn : List ℕ → ℕ → List ℕ → List ℕ → Type 0
 IsTorn bytes slot cell torn = TornWithin (place_of slot (spare bytes slot)) 96 bytes torn
     ⊎ ((selector : ℕ) × (torn ≡ splice (staged bytes slot cell) slot (selector ∷ [])))
+
+-- the same of 12352 bytes, as a test: with what stands in the half that does not count they are the bytes; or with the selector that stands there, those with this cell
+unfoldable pub is_torn : List ℕ → ℕ → List ℕ → List ℕ → Bool
+is_torn bytes slot cell torn = bytes_eq torn (splice bytes (place_of slot (spare bytes slot)) (slice_range torn (place_of slot (spare bytes slot)) (place_of slot (spare bytes slot) + 96)))
+    || bytes_eq torn (splice (staged bytes slot cell) slot (slice_range torn slot (slot + 1)))
 
 -- each slot has the cell that it had, but for this one, which may have the new one
 abbrev pub HasOldOrNew : List ℕ → ℕ → List ℕ → List ℕ → Type 0

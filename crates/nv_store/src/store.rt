@@ -76,6 +76,13 @@ impl Store {
         self.settled
     }
 
+    /// From here on it is not known what the disk has.
+    pub fn unsettle(&mut self)
+        ensures { self.new.bytes ≡ None }
+    {
+        self.settled = false;
+    }
+
     /// All bytes of the store.
     pub fn bytes(&self) -> &[u8]
         requires { IsSome self.now.bytes }
