@@ -1,12 +1,16 @@
 -- The ends that outs tell of.
 use Rattle.flat_machine.proofs.RequestMoves.{Rows, ending_of, endings_where}
 use Rattle.flat_machine.specs.RequestFacts.{Ending, ending_in, endings}
-use Rattle.flat_machine.specs.Requests.{pending_where, same_session}
-use Rattle.flat_machine.specs.Sessions.{execute_event, grants, grants_after, holds, out_of_line, service_events}
-use Rattle.flat_machine.specs.State.{Public, accuses}
-use Rattle.flat_machine.specs.declared.types.Asked.{Asked}
-use Rattle.flat_machine.specs.declared.types.Row.TheVariants.{Gone, InWork, Waiting}
-use Rattle.flat_machine.specs.declared.types.SessionRow.{SessionRow}
+use Rattle.request_queue.specs.Requests.{pending_where}
+use Rattle.pad_words.specs.Numbers.{same_session}
+use Rattle.flat_machine.specs.Sessions.{execute_event, grants, grants_after, service_events}
+use Rattle.device_lock.specs.LockLine.{holds, out_of_line}
+use Rattle.flat_machine.specs.State.{Shared, accuses}
+use Rattle.request_queue.specs.declared.requests.Request.{Request}
+use Rattle.request_queue.specs.declared.requests.RequestRow.TheVariants.{Gone, InWork, Waiting}
+use Rattle.session_book.specs.Sessions.{hearers, hears}
+use Rattle.session_book.specs.declared.sessions.SessionRow.{SessionRow}
+use Rattle.pad_steps.specs.declared.steps.Class.TheVariants as class
 use Rattle.pad_steps.specs.declared.answers.Event.{Event}
 use Rattle.pad_steps.specs.declared.answers.Out.{Out}
 use Rattle.pad_steps.specs.declared.answers.Refusal.{Refusal}
@@ -23,12 +27,12 @@ pub endings-append : (xs ys : List Out) → endings (xs ++ ys) ≡ endings xs ++
 endings-append [] ys = refl
 endings-append (o ∷ xs) ys = ap (λ (es : List Ending). ending_in o ++ es) (endings-append xs ys) ∙ sym (append_assoc (ending_in o) (endings xs) (endings ys))
 
-ended_if : (b : Bool) (a : Asked Command) (r : Reply) (xs : List (Asked Command)) (es : List Ending) → endings (map (λ (x : Asked Command). out.Ended x.session x.id r) xs) ≡ es
-    → endings (map (λ (x : Asked Command). out.Ended x.session x.id r) (if b then a ∷ xs else xs)) ≡ (if b then ending_of a r ∷ es else es)
+ended_if : (b : Bool) (a : Request Command) (r : Reply) (xs : List (Request Command)) (es : List Ending) → endings (map (λ (x : Request Command). out.Ended x.session x.id r) xs) ≡ es
+    → endings (map (λ (x : Request Command). out.Ended x.session x.id r) (if b then a ∷ xs else xs)) ≡ (if b then ending_of a r ∷ es else es)
 ended_if true a r xs es e = ap (λ (ys : List Ending). ending_of a r ∷ ys) e
 ended_if false a r xs es e = e
 
-pub endings-ended : (test : Asked Command → Bool) (r : Reply) (rows : Rows) → endings (map (λ (a : Asked Command). out.Ended a.session a.id r) (pending_where test rows)) ≡ endings_where test r rows
+pub endings-ended : (test : Request Command → Bool) (r : Reply) (rows : Rows) → endings (map (λ (a : Request Command). out.Ended a.session a.id r) (pending_where test rows)) ≡ endings_where test r rows
 endings-ended test r [] = refl
 endings-ended test r (Waiting a ∷ rows) = ended_if (test a) a r (pending_where test rows) (endings_where test r rows) (endings-ended test r rows)
 endings-ended test r (InWork a ∷ rows) = ended_if (test a) a r (pending_where test rows) (endings_where test r rows) (endings-ended test r rows)
@@ -39,16 +43,16 @@ event_if true s e = refl
 event_if false s e = refl
 
 pub endings-execute_event : (rows : List SessionRow) (s : Session) (e : Event) → endings (execute_event rows s e) ≡ []
-endings-execute_event rows s e = event_if (list_any (λ row. same_session row.session s && row.classes.execute) rows) s e
+endings-execute_event rows s e = event_if (hears s class.Execute rows) s e
 
-endings-heard : (rows : List SessionRow) (e : Event) → endings (map (λ (row : SessionRow). out.Event row.session e) rows) ≡ []
+endings-heard : (sessions : List Session) (e : Event) → endings (map (λ (session : Session). out.Event session e) sessions) ≡ []
 endings-heard [] e = refl
-endings-heard (row ∷ rows) e = endings-heard rows e
+endings-heard (session ∷ sessions) e = endings-heard sessions e
 
 pub endings-service_events : (rows : List SessionRow) (e : Event) → endings (service_events rows e) ≡ []
-endings-service_events rows e = endings-heard (filter (λ (row : SessionRow). row.classes.service) rows) e
+endings-service_events rows e = endings-heard (hearers class.Service rows) e
 
-pub endings-accuses : (p : Public) (accused : Option (List ℕ)) (r : Refusal) → endings (accuses p accused r) ≡ []
+pub endings-accuses : (p : Shared) (accused : Option (List ℕ)) (r : Refusal) → endings (accuses p accused r) ≡ []
 endings-accuses p None r = refl
 endings-accuses p (Some name) r = endings-service_events p.sessions (event.IllegalKeyAccess name r)
 

@@ -1,10 +1,10 @@
 -- The command of an entry in work: a key part is one of SECUREKEY_ENTRY, a PIN one of GET_PIN, and it passes what pending commands pass.
-use Rattle.flat_machine.specs.Entries.{Entry, entry_by, entry_of, greatest_length, is_key_part, is_pin}
-use Rattle.flat_machine.specs.Requests.{working}
+use Rattle.entry_core.specs.Entries.{Entry, entry_by, entry_of, greatest_length, is_key_part, is_pin}
+use Rattle.request_queue.specs.Requests.{request_in_work}
 use Rattle.flat_machine.specs.Sound.{pending_pass}
-use Rattle.flat_machine.specs.declared.types.Asked.{Asked}
-use Rattle.flat_machine.specs.declared.types.Row.{Row}
-use Rattle.flat_machine.specs.declared.types.Row.TheVariants.{Gone, InWork, Waiting}
+use Rattle.request_queue.specs.declared.requests.Request.{Request}
+use Rattle.request_queue.specs.declared.requests.RequestRow.{RequestRow}
+use Rattle.request_queue.specs.declared.requests.RequestRow.TheVariants.{Gone, InWork, Waiting}
 use Rattle.pad_steps.specs.declared.answers.Reply.{Reply}
 use Rattle.pad_steps.specs.declared.commands.Command.{Command}
 use Rattle.pad_steps.specs.declared.commands.EntryKind.{EntryKind}
@@ -70,7 +70,7 @@ pin_of command.Init e s is = absurd (none_is_not_some e s)
 pin_of command.Reset e s is = absurd (none_is_not_some e s)
 pin_of command.RsaImport e s is = absurd (none_is_not_some e s)
 
-same_asked : (b a : Asked Command) → Some b ≡ Some a → b ≡ a
+same_asked : (b a : Request Command) → Some b ≡ Some a → b ≡ a
 same_asked b a e = cc
 
 pub pass_first : (x y : Bool) → (x && y) ≡ true → x ≡ true
@@ -81,8 +81,8 @@ pass_second : (x y : Bool) → (x && y) ≡ true → y ≡ true
 pass_second true y h = h
 pass_second false y h = cc
 
-pub pass-working : (t : Command → Bool) (rows : List (Row Command Reply)) (a : Asked Command) → pending_pass t rows ≡ true → working rows ≡ Some a → t a.command ≡ true
-pass-working t [] a h w = cc
-pass-working t (Waiting b ∷ rows) a h w = pass-working t rows a (pass_second (t b.command) (pending_pass t rows) h) w
-pass-working t (InWork b ∷ rows) a h w = ap (λ (x : Asked Command). t x.command) (sym (same_asked b a w)) ∙ pass_first (t b.command) (pending_pass t rows) h
-pass-working t (Gone id s q ∷ rows) a h w = pass-working t rows a h w
+pub pass-request_in_work : (t : Command → Bool) (rows : List (RequestRow Command Reply)) (a : Request Command) → pending_pass t rows ≡ true → request_in_work rows ≡ Some a → t a.command ≡ true
+pass-request_in_work t [] a h w = cc
+pass-request_in_work t (Waiting b ∷ rows) a h w = pass-request_in_work t rows a (pass_second (t b.command) (pending_pass t rows) h) w
+pass-request_in_work t (InWork b ∷ rows) a h w = ap (λ (x : Request Command). t x.command) (sym (same_asked b a w)) ∙ pass_first (t b.command) (pending_pass t rows) h
+pass-request_in_work t (Gone id s q ∷ rows) a h w = pass-request_in_work t rows a h w

@@ -1,5 +1,5 @@
 -- What a digit of a PIN does not change.
-use Rattle.flat_machine.specs.Entries.{Entry, active_seen, after_digit, after_other, after_value, digit_in, digit_seen, entered, is_pin, is_secret, shown_digit, value_seen}
+use Rattle.entry_core.specs.Entries.{Entry, active_seen, after_digit, after_other, after_value, digit_in, digit_seen, entered, is_pin, is_secret, shown_digit, value_seen}
 use Rattle.flat_machine.specs.Twins.{AlikeKeys, AlikePresses}
 use Rattle.key_source.specs.Keys.{has_key}
 use Rattle.key_source.specs.declared.Key.{Key}

@@ -6,16 +6,17 @@ use Rattle.des_core.specs.TripleDes.{tdea_bytes}
 use Rattle.flat_machine.proofs.RunCommands.{begun_entry, entered_0000, entered_1234, iso0_block, pin_key, with_pin_key}
 use Rattle.flat_machine.proofs.RunWords.{session_1}
 use Rattle.flat_machine.specs.Machine.{Act, release, run}
-use Rattle.flat_machine.specs.PinFacts.{Format0InWork}
-use Rattle.flat_machine.specs.Standard.{standard_setting}
+use Rattle.flat_machine.specs.Clearing.{CommandInWork}
+use Rattle.flat_machine.specs.Settings.{standard_setting, Setting}
 use Rattle.flat_machine.specs.State.{opening}
 use Rattle.flat_machine.specs.Twins.{Twins}
-use Rattle.flat_machine.specs.Works.{Setting}
 use Rattle.pad_steps.specs.declared.commands.BlockRequest.{BlockRequest}
 use Rattle.std.proofs.Common.{inl, inr}
 use Rattle.std.specs.Prelude.{List, None, Some, [], refl, ◌++◌, ◌∷◌, ◌≡◌}
 use Rattle.pad_steps.specs.declared.answers.Answer.TheVariants as answer
+use Rattle.pad_steps.specs.declared.commands.Command.TheVariants as command
 use Rattle.pad_steps.specs.declared.commands.Form.TheVariants as form
+use Rattle.pad_steps.specs.declared.commands.PinRequest.TheVariants as pin
 use Rattle.pad_steps.specs.declared.steps.Step.TheVariants as step
 
 abbrev pad : Setting
@@ -36,8 +37,8 @@ twins_so_far : Twins pad opening block_due_of_1234 block_due_of_0000
 twins_so_far = ((refl, inl refl, (refl, inl refl, (refl, inl refl, (refl, inl refl, (refl, inl refl, (refl, inl refl, (refl, inl refl, (refl, inr (refl, refl), (refl, inr (refl, refl), (refl, inr (refl, refl), (refl, inr (refl, refl), (refl, inl refl, (refl, inl refl, (refl, inl refl, tt)))))))))))))), refl)
 
 -- a block of format 0 under one key is in work
-block_in_work : Format0InWork (run pad block_due_of_1234).public block
-block_in_work = record { asked = record { id = 3; session = session_1; submitted = 0; limit = 0; command = iso0_block }; in_work = refl; command = refl; form = refl; one_key = refl }
+block_in_work : CommandInWork (run pad block_due_of_1234).shared (command.Pin (pin.Block block))
+block_in_work = record { request = record { id = 3; session = session_1; submitted = 0; limit = 0; command = iso0_block }; in_work = refl; asked = refl }
 
 -- 041215FEDCBA9876 and 040021FEDCBA9876 under the key of zeros
 released_of_1234 : release pad (run pad block_due_of_1234) step.Finish ≡ Some (answer.Block (record { 0 = 0xDF ∷ 0xB4 ∷ 0xF4 ∷ 0x53 ∷ 0xC7 ∷ 0x86 ∷ 0xCC ∷ 0xBB ∷ [] }))

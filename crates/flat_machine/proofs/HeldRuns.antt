@@ -1,6 +1,6 @@
 -- The held PIN in every run, and what a cut or Off leaves.
 use Rattle.flat_machine.proofs.BoolLemmas.{both}
-use Rattle.flat_machine.proofs.EntryCommands.{pass-working, pass_first, pin_of}
+use Rattle.flat_machine.proofs.EntryCommands.{pass-request_in_work, pass_first, pin_of}
 use Rattle.flat_machine.proofs.LengthLemmas.{length-entered-le}
 use Rattle.flat_machine.proofs.LengthRuns.{submits_pass}
 use Rattle.flat_machine.proofs.PinHeld.{pin_after}
@@ -8,7 +8,7 @@ use Rattle.flat_machine.proofs.PinShown.{pin_is_no_part}
 use Rattle.flat_machine.proofs.PressWalk.{InWorkOf, running_request}
 use Rattle.flat_machine.proofs.RequestRuns.{from_start}
 use Rattle.flat_machine.proofs.SoundLemmas.{next_sound, opening_sound, ready_opening_sound}
-use Rattle.flat_machine.specs.Entries.{Entry, after_value, digit_in, entered, is_pin}
+use Rattle.entry_core.specs.Entries.{Entry, after_value, digit_in, entered, is_pin}
 use Rattle.flat_machine.specs.Facts.{IsStart}
 use Rattle.flat_machine.specs.Machine.{Act, next, run_from}
 use Rattle.flat_machine.specs.PinFacts.{PinAfter, PinEntered, PinGoes, PinStays, passes_submit}
@@ -16,7 +16,7 @@ use Rattle.flat_machine.specs.RequestSteps.{invalid_if}
 use Rattle.flat_machine.specs.Sound.{Sound, allowed}
 use Rattle.pad_steps.specs.Accounts.{all_decimal}
 use Rattle.flat_machine.specs.State.{Flat, Running, ends, is_off}
-use Rattle.flat_machine.specs.Works.{Setting}
+use Rattle.flat_machine.specs.Settings.{Setting}
 use Rattle.key_source.specs.declared.Key.{Key}
 use Rattle.pad_steps.specs.declared.commands.Command.{Command}
 use Rattle.pad_steps.specs.declared.steps.DiskWord.{DiskWord}
@@ -72,31 +72,31 @@ pub record HeldFits (held : List ℕ) : Type 0 where
   pub decimal : all_decimal held ≡ true
 
 abbrev SoundHeld : Setting → Flat → Type 0
-SoundHeld set h = Sound (passes_submit set.works) h.public × HeldFits h.held
+SoundHeld set h = Sound (passes_submit set.pin_rules) h.shared × HeldFits h.held
 
-module _ (set : Setting) (h : Flat) (sound : Sound (passes_submit set.works) h.public) (before : HeldFits h.held) where
-  pin_in_work_passes : (w : Running) (at : InWorkOf h.public.requests w) → passes_submit set.works at.request.command ≡ true
-  pin_in_work_passes w at = pass_first (passes_submit set.works at.request.command) (not (is_off h.public.device)) (pass-working (allowed (passes_submit set.works) h.public.device) h.public.requests at.request sound at.work)
+module _ (set : Setting) (h : Flat) (sound : Sound (passes_submit set.pin_rules) h.shared) (before : HeldFits h.held) where
+  pin_in_work_passes : (w : Running) (at : InWorkOf h.shared.requests w) → passes_submit set.pin_rules at.request.command ≡ true
+  pin_in_work_passes w at = pass_first (passes_submit set.pin_rules at.request.command) (not (is_off h.shared.device)) (pass-request_in_work (allowed (passes_submit set.pin_rules) h.shared.device) h.shared.requests at.request sound at.work)
 
-  greatest_fits : (w : Running) → InWorkOf h.public.requests w → is_pin w.entry.kind ≡ true → w.entry.greatest ≤ 16
+  greatest_fits : (w : Running) → InWorkOf h.shared.requests w → is_pin w.entry.kind ≡ true → w.entry.greatest ≤ 16
   greatest_fits w at is =
       let of_pin = pin_of at.request.command w.entry at.entry is in
-      let passes : passes_submit set.works (command.GetPin of_pin.rules) ≡ true = subst (λ (x : Command). passes_submit set.works x ≡ true) of_pin.command (pin_in_work_passes w at) in
+      let passes : passes_submit set.pin_rules (command.GetPin of_pin.rules) ≡ true = subst (λ (x : Command). passes_submit set.pin_rules x ≡ true) of_pin.command (pin_in_work_passes w at) in
       rw of_pin.greatest (greatest_if of_pin.rules.max (of_pin.rules.max == 0) (rules_passed of_pin.rules.max (nat_lt 16 of_pin.rules.max) refl passes))
 
   held_after : (s : Step) (held : List ℕ) → PinAfter h s held → HeldFits held
   held_after s held (PinStays e) = rw e before
   held_after s held (PinGoes e) = rw e (record { few = omega arith; decimal = refl })
   held_after s held (PinEntered k w c is ends e) = rw e (record {
-    few = omega (arith, length-entered-le w.entry (k ∷ h.presses), greatest_fits w (running_request h.public w ends.runs) ends.of_pin);
+    few = omega (arith, length-entered-le w.entry (k ∷ h.presses), greatest_fits w (running_request h.shared w ends.runs) ends.of_pin);
     decimal = decimal-entered w.entry (k ∷ h.presses) ends.of_pin;
   })
 
 next_held : (set : Setting) (h : Flat) (s : Step) (w : DiskWord) → SoundHeld set h → SoundHeld set (next set h s w).state
-next_held set h s w both = (next_sound (passes_submit set.works) set h s w (submits_pass set.works s) both.0, held_after set h both.0 both.1 s (next set h s w).state.held (pin_after set h s w))
+next_held set h s w both = (next_sound (passes_submit set.pin_rules) set h s w (submits_pass set.pin_rules s) both.0, held_after set h both.0 both.1 s (next set h s w).state.held (pin_after set h s w))
 
 held_run : (set : Setting) (start : Flat) (acts : List Act) → IsStart start → HeldFits (run_from set start acts).held
-held_run set start acts begins = (from_start set (SoundHeld set) (next_held set) (opening_sound (passes_submit set.works), record { few = omega arith; decimal = refl }) (ready_opening_sound (passes_submit set.works), record { few = omega arith; decimal = refl }) start acts begins).1
+held_run set start acts begins = (from_start set (SoundHeld set) (next_held set) (opening_sound (passes_submit set.pin_rules), record { few = omega arith; decimal = refl }) (ready_opening_sound (passes_submit set.pin_rules), record { few = omega arith; decimal = refl }) start acts begins).1
 
 pub held_few : (set : Setting) (start : Flat) (acts : List Act) → IsStart start → length (run_from set start acts).held ≤ 16
 held_few set start acts begins = (held_run set start acts begins).few

@@ -2,7 +2,7 @@
 use Rattle.flat_machine.specs.Histories.{FitsFrom, HistoryEntry, LegalFrom, Outcome, act_of, line_of_entry, outcome_of}
 use Rattle.flat_machine.specs.Machine.{line_of, lines_from, next, run_from}
 use Rattle.flat_machine.specs.State.{Flat}
-use Rattle.flat_machine.specs.Works.{Setting}
+use Rattle.flat_machine.specs.Settings.{Setting}
 use Rattle.pad_steps.specs.Lines.{Line}
 use Rattle.std.proofs.Common.{ap}
 use Rattle.std.specs.Prelude.{List, None, Some, [], if◌then◌else◌, map, refl, ◌++◌, ◌∷◌, ◌≡◌}
@@ -27,7 +27,7 @@ two_lines : (a b : Line) (xs ys : List Line) → a ≡ b → xs ≡ ys → a ∷
 two_lines a b xs ys e f = rw (e, f) refl
 
 entry_line : (set : Setting) (h : Flat) (e : HistoryEntry) → e.outcome ≡ outcome_of set h (act_of e) → line_of_entry e ≡ line_of set h (act_of e)
-entry_line set h e same = ap (λ (o : Outcome). record { shown = if o.masked then None else Some e.op; word = o.word; fate = o.fate; outs = o.outs }) same
+entry_line set h e same = ap (λ (o : Outcome). record { shown = if o.is_masked then None else Some e.op; word = o.word; fate = o.fate; outs = o.outs }) same
 
 pub legal_lines : (set : Setting) (h : Flat) (history : List HistoryEntry) → LegalFrom set h history → map line_of_entry history ≡ lines_from set h (map act_of history)
 legal_lines set h [] legal = refl

@@ -1,6 +1,6 @@
 -- How many digits an entry has, and has when it ends.
-use Rattle.flat_machine.specs.Entries.{Entry, active_seen, after_other, after_value, digit_in, entered, shown_digit, terminator_seen, value_seen}
-use Rattle.flat_machine.specs.declared.types.Seen.TheVariants.{Ended, Ignored, Took}
+use Rattle.entry_core.specs.Entries.{Entry, active_seen, after_other, after_value, digit_in, entered, shown_digit, terminator_seen, value_seen}
+use Rattle.entry_core.specs.declared.seen.Seen.TheVariants.{Ended, Ignored, Took}
 use Rattle.key_source.specs.Keys.{has_key}
 use Rattle.key_source.specs.declared.Key.{Key}
 use Rattle.pad_steps.specs.declared.answers.Completion.{Completion}

@@ -1,10 +1,13 @@
 -- The sessions in the line are open and stand in it once.
 use Rattle.flat_machine.proofs.BoolLemmas.{and_of, both, or_none}
-use Rattle.flat_machine.proofs.SessionLemmas.{Rising, any-with_session, open-with_classes, open-without_session, rising-filter, rising-with_classes, rising-with_session}
-use Rattle.flat_machine.specs.Requests.{same_session}
+use Rattle.flat_machine.proofs.SessionLemmas.{any-with_session, open-with_classes, open-without_session}
+use Rattle.session_book.specs.RisingLaws.{rising-filter, rising-with_classes, rising-with_session}
+use Rattle.session_book.specs.Rising.{Rising}
+use Rattle.pad_words.specs.Numbers.{same_session}
 use Rattle.flat_machine.specs.SessionFacts.{all_open}
-use Rattle.flat_machine.specs.Sessions.{in_line, is_open, out_of_line, with_classes, with_session, without_session}
-use Rattle.flat_machine.specs.declared.types.SessionRow.{SessionRow}
+use Rattle.device_lock.specs.LockLine.{in_line, out_of_line}
+use Rattle.session_book.specs.Sessions.{is_open, with_classes, with_session, without_session}
+use Rattle.session_book.specs.declared.sessions.SessionRow.{SessionRow}
 use Rattle.pad_steps.specs.declared.steps.Classes.{Classes}
 use Rattle.pad_words.specs.declared.numbers.Session.{Session}
 use Rattle.std.proofs.Common.{◌∙◌}

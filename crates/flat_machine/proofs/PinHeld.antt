@@ -1,19 +1,22 @@
 -- When a PIN is held.
-use Rattle.flat_machine.specs.Decisions.{Goes, Stops}
-use Rattle.flat_machine.specs.Entries.{Entry, active_seen, after_other, after_value, digit_in, entered, is_pin, shown_digit, terminator_seen, value_seen}
+use Rattle.flat_machine.specs.declared.types.Work.TheVariants as work
+use Rattle.flat_machine.specs.declared.types.Work.{Work}
+use Rattle.flat_machine.specs.Commands.{work_of}
+use Rattle.entry_core.specs.Entries.{Entry, active_seen, after_other, after_value, digit_in, entered, is_pin, shown_digit, terminator_seen, value_seen}
 use Rattle.flat_machine.specs.EntrySteps.{next_begin, press_in, press_seen}
-use Rattle.flat_machine.specs.FinishSteps.{finish_by, finish_pin, finish_with, next_finish, pin_now}
+use Rattle.flat_machine.specs.FinishSteps.{finish_with, next_finish, performs}
 use Rattle.flat_machine.specs.Machine.{has_pin, next, next_boot, next_off}
 use Rattle.flat_machine.specs.PinFacts.{EndsPin, PinAfter, PinEntered, PinGoes, PinStays, leaves_pin}
 use Rattle.flat_machine.specs.RequestSteps.{is_canceled, next_ask, next_cancel, next_submit, next_tick, submit_by, submit_refusal}
-use Rattle.flat_machine.specs.Requests.{pending_where, working}
+use Rattle.request_queue.specs.Requests.{pending_where, request_in_work}
 use Rattle.flat_machine.specs.SessionSteps.{next_close, next_listen, next_lock, next_open, next_unlock}
-use Rattle.flat_machine.specs.Sessions.{holds, is_open}
-use Rattle.flat_machine.specs.State.{Flat, Public, Running, Said, after_said, ends, running}
-use Rattle.flat_machine.specs.Works.{Readied, Setting}
-use Rattle.flat_machine.specs.declared.types.Asked.{Asked}
-use Rattle.flat_machine.specs.declared.types.Seen.{Seen}
-use Rattle.flat_machine.specs.declared.types.Seen.TheVariants.{Ended, Ignored, Took}
+use Rattle.device_lock.specs.LockLine.{holds}
+use Rattle.session_book.specs.Sessions.{is_open}
+use Rattle.flat_machine.specs.State.{Flat, Shared, Running, Said, after_said, ends, owner_of, running_entry}
+use Rattle.flat_machine.specs.Settings.{Setting}
+use Rattle.request_queue.specs.declared.requests.Request.{Request}
+use Rattle.entry_core.specs.declared.seen.Seen.{Seen}
+use Rattle.entry_core.specs.declared.seen.Seen.TheVariants.{Ended, Ignored, Took}
 use Rattle.key_source.specs.Keys.{has_key}
 use Rattle.key_source.specs.declared.Key.{Key}
 use Rattle.pad_steps.specs.declared.answers.Completion.{Completion}
@@ -29,7 +32,6 @@ use Rattle.std.specs.Prelude.{Bool, IsTrue, List, None, Option, Some, [], cond, 
 use Rattle.key_source.specs.declared.Key.TheVariants as keypad
 use Rattle.pad_steps.specs.declared.answers.Completion.TheVariants as completion
 use Rattle.pad_steps.specs.declared.answers.Shown.TheVariants as shown
-use Rattle.pad_steps.specs.declared.commands.Command.TheVariants as command
 use Rattle.pad_steps.specs.declared.steps.Step.TheVariants as step
 
 after_drop : (b : Bool) (h : Flat) (s : Step) → PinAfter h s (if b then [] else h.held)
@@ -40,34 +42,34 @@ held_if : (b : Bool) (h : Flat) (k : Key) (w : Running) (c : Completion) (ds : L
 held_if true h k w c ds is ends e = PinEntered k w c refl (ends refl) e
 held_if false h k w c ds is ends e = PinStays refl
 
-pin_press_seen : (set : Setting) (h : Flat) (w : Running) (k : Key) (seen : Seen) → running h.public ≡ Some w → has_key w.entry.active k ≡ true → active_seen w.entry (length (entered w.entry h.presses)) k ≡ seen → PinAfter h (step.Press k) (press_seen set.cipher h w k seen).state.held
+pin_press_seen : (set : Setting) (h : Flat) (w : Running) (k : Key) (seen : Seen) → running_entry h.shared ≡ Some w → has_key w.entry.active k ≡ true → active_seen w.entry (length (entered w.entry h.presses)) k ≡ seen → PinAfter h (step.Press k) (press_seen set.cipher h w k seen).state.held
 pin_press_seen set h w k Ignored runs active is = PinStays refl
 pin_press_seen set h w k (Took s) runs active is = PinStays refl
 pin_press_seen set h w k (Ended s c) runs active is = held_if (is_pin w.entry.kind) h k w c (entered w.entry (k ∷ h.presses)) refl (λ of_pin. record { runs = runs; of_pin = of_pin; active = active; shown = s; ends = is }) refl
 
-pin_press_if : (set : Setting) (h : Flat) (w : Running) (k : Key) (b : Bool) → has_key w.entry.active k ≡ b → running h.public ≡ Some w → PinAfter h (step.Press k) (cond b (press_seen set.cipher h w k (active_seen w.entry (length (entered w.entry h.presses)) k)) (record { state = h; outs = [] })).state.held
+pin_press_if : (set : Setting) (h : Flat) (w : Running) (k : Key) (b : Bool) → has_key w.entry.active k ≡ b → running_entry h.shared ≡ Some w → PinAfter h (step.Press k) (cond b (press_seen set.cipher h w k (active_seen w.entry (length (entered w.entry h.presses)) k)) (record { state = h; outs = [] })).state.held
 pin_press_if set h w k true active runs = pin_press_seen set h w k (active_seen w.entry (length (entered w.entry h.presses)) k) runs active refl
 pin_press_if set h w k false active runs = PinStays refl
 
-pin_press : (set : Setting) (h : Flat) (o : Option Running) (k : Key) → running h.public ≡ o → PinAfter h (step.Press k) (press_in set.cipher h o k).state.held
+pin_press : (set : Setting) (h : Flat) (o : Option Running) (k : Key) → running_entry h.shared ≡ o → PinAfter h (step.Press k) (press_in set.cipher h o k).state.held
 pin_press set h None k runs = PinStays refl
 pin_press set h (Some w) k runs = pin_press_if set h w k (has_key w.entry.active k) refl runs
 
 pub pin_after : (set : Setting) (h : Flat) (s : Step) (w : DiskWord) → PinAfter h s (next set h s w).state.held
-pin_after set h (step.Open s) w = after_drop (next_open h.public s).drops_pin h (step.Open s)
-pin_after set h (step.Close s) w = after_drop (next_close h.public s).drops_pin h (step.Close s)
-pin_after set h (step.Listen s c) w = after_drop (next_listen h.public s c).drops_pin h (step.Listen s c)
-pin_after set h (step.Lock s) w = after_drop (next_lock h.public s).drops_pin h (step.Lock s)
-pin_after set h (step.Unlock s) w = after_drop (next_unlock h.public s).drops_pin h (step.Unlock s)
-pin_after set h (step.Submit s limit c) w = after_drop (next_submit set.works h.public s limit c).drops_pin h (step.Submit s limit c)
-pin_after set h (step.Cancel s id) w = after_drop (next_cancel h.public s id).drops_pin h (step.Cancel s id)
-pin_after set h step.Begin w = after_drop (next_begin h.public).drops_pin h step.Begin
-pin_after set h step.Finish w = after_drop (next_finish set h.public h.held w).drops_pin h step.Finish
-pin_after set h (step.Press k) w = pin_press set h (running h.public) k refl
-pin_after set h (step.Tick n) w = after_drop (next_tick h.public n).drops_pin h (step.Tick n)
-pin_after set h (step.Ask s q) w = after_drop (next_ask set.cipher h.public (has_pin h.held) s q).drops_pin h (step.Ask s q)
-pin_after set h step.Off w = after_drop (next_off h.public).drops_pin h step.Off
-pin_after set h step.Boot w = after_drop (next_boot h.public w).drops_pin h step.Boot
+pin_after set h (step.Open s) w = after_drop (next_open h.shared s).drops_pin h (step.Open s)
+pin_after set h (step.Close s) w = after_drop (next_close h.shared s).drops_pin h (step.Close s)
+pin_after set h (step.Listen s c) w = after_drop (next_listen h.shared s c).drops_pin h (step.Listen s c)
+pin_after set h (step.Lock s) w = after_drop (next_lock h.shared s).drops_pin h (step.Lock s)
+pin_after set h (step.Unlock s) w = after_drop (next_unlock h.shared s).drops_pin h (step.Unlock s)
+pin_after set h (step.Submit s limit c) w = after_drop (next_submit set.pin_rules h.shared s limit c).drops_pin h (step.Submit s limit c)
+pin_after set h (step.Cancel s id) w = after_drop (next_cancel h.shared s id).drops_pin h (step.Cancel s id)
+pin_after set h step.Begin w = after_drop (next_begin h.shared).drops_pin h step.Begin
+pin_after set h step.Finish w = after_drop (next_finish set h.shared h.held w).drops_pin h step.Finish
+pin_after set h (step.Press k) w = pin_press set h (running_entry h.shared) k refl
+pin_after set h (step.Tick n) w = after_drop (next_tick h.shared n).drops_pin h (step.Tick n)
+pin_after set h (step.Ask s q) w = after_drop (next_ask set.cipher h.shared (has_pin h.held) s q).drops_pin h (step.Ask s q)
+pin_after set h step.Off w = after_drop (next_off h.shared).drops_pin h step.Off
+pin_after set h step.Boot w = after_drop (next_boot h.shared w).drops_pin h step.Boot
 
 -- CANCEL leaves no digit
 
@@ -122,7 +124,7 @@ stays_if : (b : Bool) (x y : Said) → x.drops_pin ≡ false → y.drops_pin ≡
 stays_if true x y h k = h
 stays_if false x y h k = k
 
-stays_submit : (o : Option Refusal) (p : Public) (s : Session) (limit : ℕ) (c : Command) → (submit_by o p s limit c).drops_pin ≡ false
+stays_submit : (o : Option Refusal) (p : Shared) (s : Session) (limit : ℕ) (c : Command) → (submit_by o p s limit c).drops_pin ≡ false
 stays_submit (Some r) p s limit c = refl
 stays_submit None p s limit c = refl
 
@@ -131,28 +133,28 @@ undropped true held e = cc
 undropped false held e = refl
 
 pub left_held : (set : Setting) (h : Flat) (s : Step) (w : DiskWord) → IsTrue (leaves_pin s) → (next set h s w).state.held ≡ h.held
-left_held set h (step.Open s) w is = undropped (next_open h.public s).drops_pin h.held (stays_if (is_open s h.public.sessions) _ _ refl refl)
-left_held set h (step.Close s) w is = undropped (next_close h.public s).drops_pin h.held (stays_if (is_open s h.public.sessions) _ _ refl refl)
-left_held set h (step.Listen s c) w is = undropped (next_listen h.public s c).drops_pin h.held (stays_if (is_open s h.public.sessions) _ _ refl refl)
-left_held set h (step.Lock s) w is = undropped (next_lock h.public s).drops_pin h.held (stays_if (is_open s h.public.sessions) _ _ refl refl)
-left_held set h (step.Unlock s) w is = undropped (next_unlock h.public s).drops_pin h.held (stays_if (is_open s h.public.sessions) _ _ (stays_if (holds s h.public.line) _ _ refl refl) refl)
-left_held set h (step.Submit s limit c) w is = undropped (next_submit set.works h.public s limit c).drops_pin h.held (stays_submit (submit_refusal set.works h.public s c) h.public s limit c)
-left_held set h (step.Cancel s id) w is = undropped (next_cancel h.public s id).drops_pin h.held (stays_if (is_open s h.public.sessions) _ _ (stays_if (not (id == 0) && (length (pending_where (is_canceled h.public s id) h.public.requests) == 0)) _ _ refl refl) refl)
+left_held set h (step.Open s) w is = undropped (next_open h.shared s).drops_pin h.held (stays_if (is_open s h.shared.sessions) _ _ refl refl)
+left_held set h (step.Close s) w is = undropped (next_close h.shared s).drops_pin h.held (stays_if (is_open s h.shared.sessions) _ _ refl refl)
+left_held set h (step.Listen s c) w is = undropped (next_listen h.shared s c).drops_pin h.held (stays_if (is_open s h.shared.sessions) _ _ refl refl)
+left_held set h (step.Lock s) w is = undropped (next_lock h.shared s).drops_pin h.held (stays_if (is_open s h.shared.sessions) _ _ refl refl)
+left_held set h (step.Unlock s) w is = undropped (next_unlock h.shared s).drops_pin h.held (stays_if (is_open s h.shared.sessions) _ _ (stays_if (holds s h.shared.line) _ _ refl refl) refl)
+left_held set h (step.Submit s limit c) w is = undropped (next_submit set.pin_rules h.shared s limit c).drops_pin h.held (stays_submit (submit_refusal set.pin_rules h.shared s c) h.shared s limit c)
+left_held set h (step.Cancel s id) w is = undropped (next_cancel h.shared s id).drops_pin h.held (stays_if (is_open s h.shared.sessions) _ _ (stays_if (not (id == 0) && (length (pending_where (is_canceled h.shared s id) h.shared.requests) == 0)) _ _ refl refl) refl)
 left_held set h step.Begin w is = cc
 left_held set h step.Finish w is = cc
 left_held set h (step.Press k) w is = cc
 left_held set h (step.Tick n) w is = refl
-left_held set h (step.Ask s q) w is = undropped (next_ask set.cipher h.public (has_pin h.held) s q).drops_pin h.held (stays_if (is_open s h.public.sessions) _ _ refl refl)
+left_held set h (step.Ask s q) w is = undropped (next_ask set.cipher h.shared (has_pin h.held) s q).drops_pin h.held (stays_if (is_open s h.shared.sessions) _ _ refl refl)
 left_held set h step.Off w is = cc
 left_held set h step.Boot w is = cc
 
--- a Finish of a PIN command
+-- a Finish of the request in work
 
-finish_of_pin : (set : Setting) (h : Flat) (a : Asked Command) (r : PinRequest) (w : DiskWord) → working h.public.requests ≡ Some a → a.command ≡ command.Pin r → next_finish set h.public h.held w ≡ finish_pin set h.public h.held a r (pin_now set.works h.public (length h.held) r)
-finish_of_pin set h a r w work is = ap (λ (o : Option (Asked Command)). finish_with set h.public h.held o w) work ∙ ap (λ (c : Command). finish_by set h.public h.held a c w) is
+held_by : (set : Setting) (h : Flat) (a : Request Command) (v : Work) (w : DiskWord) → request_in_work h.shared.requests ≡ Some a → work_of set h.shared (length h.held) a.command ≡ v → (next set h step.Finish w).state.held ≡ (after_said h (performs set h.shared h.held (owner_of a) v w)).state.held
+held_by set h a v w work is = ap (λ (o : Option (Request Command)). (after_said h (finish_with set h.shared h.held o w)).state.held) work ∙ ap (λ (u : Work). (after_said h (performs set h.shared h.held (owner_of a) u w)).state.held) is
 
-pub refused_pin_stays : (set : Setting) (h : Flat) (a : Asked Command) (r : PinRequest) (why : Refusal) (accused : Option (List ℕ)) (w : DiskWord) → working h.public.requests ≡ Some a → a.command ≡ command.Pin r → pin_now set.works h.public (length h.held) r ≡ Stops why accused → (next set h step.Finish w).state.held ≡ h.held
-refused_pin_stays set h a r why accused w work is stops = ap (λ (s : Said). (after_said h s).state.held) (finish_of_pin set h a r w work is ∙ ap (finish_pin set h.public h.held a r) stops)
+pub refused_pin_stays : (set : Setting) (h : Flat) (a : Request Command) (why : Refusal) (accused : Option (List ℕ)) (w : DiskWord) → request_in_work h.shared.requests ≡ Some a → work_of set h.shared (length h.held) a.command ≡ work.Refuse why accused → (next set h step.Finish w).state.held ≡ h.held
+refused_pin_stays set h a why accused w is comes = held_by set h a _ w is comes
 
 maintained : (b : Bool) (held : List ℕ) → b ≡ true → (if not b || false then [] else held) ≡ held
 maintained true held e = refl
@@ -162,8 +164,9 @@ unmaintained : (b : Bool) (held : List ℕ) → b ≡ false → (if not b || fal
 unmaintained true held e = cc
 unmaintained false held e = refl
 
-pub used_pin_goes : (set : Setting) (h : Flat) (a : Asked Command) (r : PinRequest) (y : Readied) (w : DiskWord) → working h.public.requests ≡ Some a → a.command ≡ command.Pin r → pin_now set.works h.public (length h.held) r ≡ Goes y → h.public.maintain ≡ false → (next set h step.Finish w).state.held ≡ []
-used_pin_goes set h a r y w work is goes off = ap (λ (s : Said). (after_said h s).state.held) (finish_of_pin set h a r w work is ∙ ap (finish_pin set h.public h.held a r) goes) ∙ unmaintained h.public.maintain h.held off
+module _ (set : Setting) (h : Flat) (a : Request Command) (r : PinRequest) (first : List ℕ) (second : Option (List ℕ)) (draws : ℕ) (w : DiskWord) (is : request_in_work h.shared.requests ≡ Some a) (comes : work_of set h.shared (length h.held) a.command ≡ work.Release r first second draws) where
+  pub used_pin_goes : h.shared.maintain ≡ false → (next set h step.Finish w).state.held ≡ []
+  used_pin_goes off = held_by set h a _ w is comes ∙ unmaintained h.shared.maintain h.held off
 
-pub maintained_pin_stays : (set : Setting) (h : Flat) (a : Asked Command) (r : PinRequest) (y : Readied) (w : DiskWord) → working h.public.requests ≡ Some a → a.command ≡ command.Pin r → pin_now set.works h.public (length h.held) r ≡ Goes y → h.public.maintain ≡ true → (next set h step.Finish w).state.held ≡ h.held
-maintained_pin_stays set h a r y w work is goes on = ap (λ (s : Said). (after_said h s).state.held) (finish_of_pin set h a r w work is ∙ ap (finish_pin set h.public h.held a r) goes) ∙ maintained h.public.maintain h.held on
+  pub maintained_pin_stays : h.shared.maintain ≡ true → (next set h step.Finish w).state.held ≡ h.held
+  maintained_pin_stays on = held_by set h a _ w is comes ∙ maintained h.shared.maintain h.held on

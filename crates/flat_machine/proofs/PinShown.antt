@@ -1,17 +1,17 @@
 -- What a PIN entry says shows no digit.
 use Rattle.flat_machine.proofs.EntryLemmas.{shown_pin}
 use Rattle.flat_machine.specs.Ciphers.{Ciphers}
-use Rattle.flat_machine.specs.Entries.{Entry, active_seen, digit_seen, entered, is_key_part, is_pin, is_secret, shown_digit}
+use Rattle.entry_core.specs.Entries.{Entry, active_seen, digit_seen, entered, is_key_part, is_pin, is_secret, shown_digit}
 use Rattle.flat_machine.specs.EntrySteps.{entry_answer, press_in, press_seen}
 use Rattle.flat_machine.specs.Machine.{line_of, next, secret_in}
 use Rattle.flat_machine.specs.PinFacts.{hides_digits, reply_hides, shows_no_digit}
-use Rattle.flat_machine.specs.Requests.{same_session}
+use Rattle.pad_words.specs.Numbers.{same_session}
 use Rattle.flat_machine.specs.Sessions.{execute_event}
-use Rattle.flat_machine.specs.State.{After, Flat, Running, running}
-use Rattle.flat_machine.specs.Works.{Setting}
-use Rattle.flat_machine.specs.declared.types.Seen.{Seen}
-use Rattle.flat_machine.specs.declared.types.Seen.TheVariants.{Ended, Ignored, Took}
-use Rattle.flat_machine.specs.declared.types.SessionRow.{SessionRow}
+use Rattle.flat_machine.specs.State.{After, Flat, Running, running_entry}
+use Rattle.flat_machine.specs.Settings.{Setting}
+use Rattle.entry_core.specs.declared.seen.Seen.{Seen}
+use Rattle.entry_core.specs.declared.seen.Seen.TheVariants.{Ended, Ignored, Took}
+use Rattle.session_book.specs.declared.sessions.SessionRow.{SessionRow}
 use Rattle.key_source.specs.Keys.{has_key}
 use Rattle.key_source.specs.declared.Key.{Key}
 use Rattle.pad_steps.specs.declared.answers.Completion.{Completion}
@@ -98,10 +98,10 @@ one_out s id r h = rw h refl
 
 press_hides : (set : Setting) (h : Flat) (w : Running) (k : Key) (seen : Seen) → is_pin w.entry.kind ≡ true → seen_hides seen ≡ true → list_all hides_digits (press_seen set.cipher h w k seen).outs ≡ true
 press_hides set h w k Ignored is e = refl
-press_hides set h w k (Took s) is e = key_alone_hides h.public.sessions w.session s e
+press_hides set h w k (Took s) is e = key_alone_hides h.shared.sessions w.session s e
 press_hides set h w k (Ended s c) is e =
     let answered = reply.Ok (entry_answer set.cipher w.entry.kind w.entry.check c (entered w.entry (k ∷ h.presses))) in
-    key_hides h.public.sessions w.session s (out.Ended w.session w.id answered ∷ []) e (one_out w.session w.id answered (pin_reply_hides set.cipher w.entry.kind w.entry.check c (entered w.entry (k ∷ h.presses)) is))
+    key_hides h.shared.sessions w.session s (out.Ended w.session w.id answered ∷ []) e (one_out w.session w.id answered (pin_reply_hides set.cipher w.entry.kind w.entry.check c (entered w.entry (k ∷ h.presses)) is))
 
 hides_if_active : (b : Bool) (x : After) (h : Flat) → list_all hides_digits x.outs ≡ true → list_all hides_digits (cond b x (record { state = h; outs = [] })).outs ≡ true
 hides_if_active true x h e = e
@@ -110,10 +110,10 @@ hides_if_active false x h e = refl
 press_in_hides : (set : Setting) (h : Flat) (w : Running) (k : Key) → is_pin w.entry.kind ≡ true → list_all hides_digits (press_in set.cipher h (Some w) k).outs ≡ true
 press_in_hides set h w k is = hides_if_active (has_key w.entry.active k) _ h (press_hides set h w k (active_seen w.entry (length (entered w.entry h.presses)) k) is (pin_seen_hides w.entry (length (entered w.entry h.presses)) k is))
 
-pub pin_entry_hides : (set : Setting) (h : Flat) (k : Key) (d : DiskWord) (w : Running) → running h.public ≡ Some w → IsTrue (is_pin w.entry.kind) → IsTrue (list_all hides_digits (next set h (step.Press k) d).outs)
+pub pin_entry_hides : (set : Setting) (h : Flat) (k : Key) (d : DiskWord) (w : Running) → running_entry h.shared ≡ Some w → IsTrue (is_pin w.entry.kind) → IsTrue (list_all hides_digits (next set h (step.Press k) d).outs)
 pin_entry_hides set h k d w runs is = subst (λ (o : Option Running). list_all hides_digits (press_in set.cipher h o k).outs ≡ true) (sym runs) (press_in_hides set h w k is)
 
-pub pin_digit_unshown : (set : Setting) (h : Flat) (k : Key) (d : DiskWord) (w : Running) → running h.public ≡ Some w → IsTrue (is_secret w.entry k) → (line_of set h (record { step = step.Press k; word = d })).shown ≡ None
+pub pin_digit_unshown : (set : Setting) (h : Flat) (k : Key) (d : DiskWord) (w : Running) → running_entry h.shared ≡ Some w → IsTrue (is_secret w.entry k) → (line_of set h (record { step = step.Press k; word = d })).shown ≡ None
 pin_digit_unshown set h k d w runs secret = subst (λ (o : Option Running). (if secret_in o k then None else Some (step.Press k)) ≡ None) (sym runs) (hidden (is_secret w.entry k) k secret)
   where
     hidden : (b : Bool) (k : Key) → b ≡ true → (if b then None else Some (step.Press k)) ≡ None

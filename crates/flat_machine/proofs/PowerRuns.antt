@@ -54,7 +54,7 @@ answered_import_stays = refl
 
 -- the calls of an import are 1 to 4: a cut armed at call 4 strikes it, one armed at call 5 strikes the next call after it
 abbrev import_calls : Plan
-import_calls = plan setting (run setting (beginning ++ begun_entry import_pin_key)).public step.Finish
+import_calls = plan setting (run setting (beginning ++ begun_entry import_pin_key)).shared step.Finish
 
 cut_at_the_last_call : Due import_calls (Some (4, Cuts)) (word.Cut 0) None
 cut_at_the_last_call = record { as_armed = refl; within = omega arith; slots = refl; spent = refl }

@@ -26,7 +26,7 @@ lock_line = refl
 abbrev locked_by_other : List Act
 locked_by_other = beginning ++ quiet (step.Open session_2) ∷ quiet (step.Submit session_1 0 (command.MaintainPin true)) ∷ quiet (step.Lock session_2) ∷ []
 
-lock_keeps_begin_from_others : next_work (run setting locked_by_other).public ≡ None
+lock_keeps_begin_from_others : next_work (run setting locked_by_other).shared ≡ None
 lock_keeps_begin_from_others = refl
 
 begin_under_a_lock : said_after locked_by_other (quiet step.Begin ∷ quiet step.Finish ∷ quiet (step.Unlock session_2) ∷ quiet step.Begin ∷ quiet step.Finish ∷ []) ≡ out.Told session_2 told.Released ∷ out.Ended session_1 1 done ∷ []
@@ -39,7 +39,7 @@ two_requests = beginning ++ quiet (step.Open session_2) ∷ begun_entry (get_pin
 close_ends_the_entry : said_after two_requests (quiet (step.Close session_1) ∷ quiet step.Begin ∷ quiet step.Finish ∷ []) ≡ out.Ended session_1 1 (refused refusal.Canceled) ∷ out.Told session_1 told.Closed ∷ out.Ended session_2 2 done ∷ []
 close_ends_the_entry = refl
 
-next_request_is_due : next_work (run setting (two_requests ++ quiet (step.Close session_1) ∷ [])).public ≡ Some step.Begin
+next_request_is_due : next_work (run setting (two_requests ++ quiet (step.Close session_1) ∷ [])).shared ≡ Some step.Begin
 next_request_is_due = refl
 
 -- Close by the lock's holder grants the next in the line

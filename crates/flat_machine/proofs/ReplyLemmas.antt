@@ -1,10 +1,10 @@
 -- A reply stays as it is, and each end of a request is told once.
 use Rattle.flat_machine.proofs.RequestMoves.{Begun, Drawn, EndedWhere, Finished, Moves, NumberedFrom, RefusedAtBegin, Rows, Unmoved, ending_of, endings_where}
 use Rattle.flat_machine.specs.RequestFacts.{Ending, endings, kept_endings, of_id}
-use Rattle.flat_machine.specs.Requests.{begun, begun_as, eligible, ended_where, finished, may_begin, refused_at_begin, working}
-use Rattle.flat_machine.specs.declared.types.Asked.{Asked}
-use Rattle.flat_machine.specs.declared.types.Row.{Row}
-use Rattle.flat_machine.specs.declared.types.Row.TheVariants.{Gone, InWork, Waiting}
+use Rattle.request_queue.specs.Requests.{begun, begun_as, eligible, ended_where, finished, may_begin, refused_at_begin, request_in_work}
+use Rattle.request_queue.specs.declared.requests.Request.{Request}
+use Rattle.request_queue.specs.declared.requests.RequestRow.{RequestRow}
+use Rattle.request_queue.specs.declared.requests.RequestRow.TheVariants.{Gone, InWork, Waiting}
 use Rattle.pad_steps.specs.declared.answers.Out.{Out}
 use Rattle.pad_steps.specs.declared.answers.Reply.{Reply}
 use Rattle.pad_steps.specs.declared.commands.Command.{Command}
@@ -19,7 +19,7 @@ use Rattle.std.specs.Prelude.{Bool, List, Option, Some, [], false, if◌then◌e
 abbrev pub StaysGone : Rows → Rows → Type 0
 StaysGone rows after = (place id : ℕ) (s : Session) (q : Reply) → slice_get rows place ≡ Some (Gone id s q) → slice_get after place ≡ Some (Gone id s q)
 
-gone-ended_where : (test : Asked Command → Bool) (r : Reply) (rows : Rows) → StaysGone rows (ended_where test r rows)
+gone-ended_where : (test : Request Command → Bool) (r : Reply) (rows : Rows) → StaysGone rows (ended_where test r rows)
 gone-ended_where test r [] place id s q h = h
 gone-ended_where test r (Waiting a ∷ rows) zero id s q h = cc
 gone-ended_where test r (Waiting a ∷ rows) (suc place) id s q h = gone-ended_where test r rows place id s q h
@@ -28,11 +28,11 @@ gone-ended_where test r (InWork a ∷ rows) (suc place) id s q h = gone-ended_wh
 gone-ended_where test r (Gone i t p ∷ rows) zero id s q h = h
 gone-ended_where test r (Gone i t p ∷ rows) (suc place) id s q h = gone-ended_where test r rows place id s q h
 
-gone_if : (b : Bool) (a : Asked Command) (row : Row Command Reply) (rows others : Rows) (place : ℕ) (o : Option (Row Command Reply)) → slice_get rows place ≡ o → slice_get others place ≡ o → slice_get (if b then row ∷ rows else Waiting a ∷ others) (suc place) ≡ o
+gone_if : (b : Bool) (a : Request Command) (row : RequestRow Command Reply) (rows others : Rows) (place : ℕ) (o : Option (RequestRow Command Reply)) → slice_get rows place ≡ o → slice_get others place ≡ o → slice_get (if b then row ∷ rows else Waiting a ∷ others) (suc place) ≡ o
 gone_if true a row rows others place o h k = h
 gone_if false a row rows others place o h k = k
 
-gone-begun_as : (f : Asked Command → Row Command Reply) (holder : Option Session) (rows : Rows) → StaysGone rows (begun_as f holder rows)
+gone-begun_as : (f : Request Command → RequestRow Command Reply) (holder : Option Session) (rows : Rows) → StaysGone rows (begun_as f holder rows)
 gone-begun_as f holder [] place id s q h = h
 gone-begun_as f holder (Waiting a ∷ rows) zero id s q h = cc
 gone-begun_as f holder (Waiting a ∷ rows) (suc place) id s q h = gone_if (may_begin holder a) a (f a) rows (begun_as f holder rows) place _ h (gone-begun_as f holder rows place id s q h)
@@ -50,7 +50,7 @@ gone-finished r (InWork a ∷ rows) (suc place) id s q h = h
 gone-finished r (Gone i t p ∷ rows) zero id s q h = h
 gone-finished r (Gone i t p ∷ rows) (suc place) id s q h = gone-finished r rows place id s q h
 
-gone-push : (rows : Rows) (a : Asked Command) → StaysGone rows (rows ++ Waiting a ∷ [])
+gone-push : (rows : Rows) (a : Request Command) → StaysGone rows (rows ++ Waiting a ∷ [])
 gone-push [] a place id s q h = cc
 gone-push (row ∷ rows) a zero id s q h = h
 gone-push (row ∷ rows) a (suc place) id s q h = gone-push rows a place id s q h
@@ -119,17 +119,17 @@ none_after id n i rows h is e = of_id-kept_none id (n + 1) rows h (omega (arith,
 
 -- the pending requests that pass a test end
 
-ended_waiting : (id n : ℕ) (b : Bool) (a : Asked Command) (r : Reply) (rows after : Rows) (told : List Ending) → NumberedFrom (n + 1) rows → a.id ≡ n → Adds id (kept_endings after) (kept_endings rows) told
+ended_waiting : (id n : ℕ) (b : Bool) (a : Request Command) (r : Reply) (rows after : Rows) (told : List Ending) → NumberedFrom (n + 1) rows → a.id ≡ n → Adds id (kept_endings after) (kept_endings rows) told
     → Adds id (kept_endings ((if b then Gone a.id a.session r else Waiting a) ∷ after)) (kept_endings rows) (if b then ending_of a r ∷ told else told)
 ended_waiting id n true a r rows after told h is e = added id (ending_of a r) (kept_endings after) (kept_endings rows) told (none_after id n a.id rows h is) e
 ended_waiting id n false a r rows after told h is e = e
 
-ended_work : (id n : ℕ) (b : Bool) (a : Asked Command) (r : Reply) (rows after : Rows) (told : List Ending) → NumberedFrom (n + 1) rows → a.id ≡ n → Adds id (kept_endings after) (kept_endings rows) told
+ended_work : (id n : ℕ) (b : Bool) (a : Request Command) (r : Reply) (rows after : Rows) (told : List Ending) → NumberedFrom (n + 1) rows → a.id ≡ n → Adds id (kept_endings after) (kept_endings rows) told
     → Adds id (kept_endings ((if b then Gone a.id a.session r else InWork a) ∷ after)) (kept_endings rows) (if b then ending_of a r ∷ told else told)
 ended_work id n true a r rows after told h is e = added id (ending_of a r) (kept_endings after) (kept_endings rows) told (none_after id n a.id rows h is) e
 ended_work id n false a r rows after told h is e = e
 
-kept-ended_where : (id n : ℕ) (test : Asked Command → Bool) (r : Reply) (rows : Rows) → NumberedFrom n rows → Adds id (kept_endings (ended_where test r rows)) (kept_endings rows) (endings_where test r rows)
+kept-ended_where : (id n : ℕ) (test : Request Command → Bool) (r : Reply) (rows : Rows) → NumberedFrom n rows → Adds id (kept_endings (ended_where test r rows)) (kept_endings rows) (endings_where test r rows)
 kept-ended_where id n test r [] h = refl
 kept-ended_where id n test r (Waiting a ∷ rows) h = ended_waiting id n (test a) a r rows (ended_where test r rows) (endings_where test r rows) h.1 h.0 (kept-ended_where id (n + 1) test r rows h.1)
 kept-ended_where id n test r (InWork a ∷ rows) h = ended_work id n (test a) a r rows (ended_where test r rows) (endings_where test r rows) h.1 h.0 (kept-ended_where id (n + 1) test r rows h.1)
@@ -137,28 +137,28 @@ kept-ended_where id n test r (Gone i s q ∷ rows) h = kept_before id _ (kept_en
 
 -- the request in work ends
 
-kept-finished : (id n : ℕ) (r : Reply) (a : Asked Command) (rows : Rows) → NumberedFrom n rows → working rows ≡ Some a → Adds id (kept_endings (finished r rows)) (kept_endings rows) (ending_of a r ∷ [])
+kept-finished : (id n : ℕ) (r : Reply) (a : Request Command) (rows : Rows) → NumberedFrom n rows → request_in_work rows ≡ Some a → Adds id (kept_endings (finished r rows)) (kept_endings rows) (ending_of a r ∷ [])
 kept-finished id n r a [] h w = cc
 kept-finished id n r a (Waiting b ∷ rows) h w = kept-finished id (n + 1) r a rows h.1 w
-kept-finished id n r a (InWork b ∷ rows) h w = subst (λ (x : Asked Command). Adds id (ending_of b r ∷ kept_endings rows) (kept_endings rows) (ending_of x r ∷ [])) (some_asked b a w)
+kept-finished id n r a (InWork b ∷ rows) h w = subst (λ (x : Request Command). Adds id (ending_of b r ∷ kept_endings rows) (kept_endings rows) (ending_of x r ∷ [])) (some_asked b a w)
     (added id (ending_of b r) (kept_endings rows) (kept_endings rows) [] (none_after id n b.id rows h.1 h.0) (adds-none id (kept_endings rows)))
   where
-    some_asked : (b a : Asked Command) → Some b ≡ Some a → b ≡ a
+    some_asked : (b a : Request Command) → Some b ≡ Some a → b ≡ a
     some_asked b a e = cc
 kept-finished id n r a (Gone i s q ∷ rows) h w = kept_before id _ (kept_endings (finished r rows)) (kept_endings rows) (ending_of a r ∷ []) (kept-finished id (n + 1) r a rows h.1 w)
 
 -- the eligible request is refused
 
-some_same : (b a : Asked Command) → Some b ≡ Some a → b ≡ a
+some_same : (b a : Request Command) → Some b ≡ Some a → b ≡ a
 some_same b a e = cc
 
-refused_if : (id n : ℕ) (test : Bool) (r : Reply) (a b : Asked Command) (rows others : Rows) (o : Option (Asked Command)) → NumberedFrom (n + 1) rows → b.id ≡ n → (if test then Some b else o) ≡ Some a
+refused_if : (id n : ℕ) (test : Bool) (r : Reply) (a b : Request Command) (rows others : Rows) (o : Option (Request Command)) → NumberedFrom (n + 1) rows → b.id ≡ n → (if test then Some b else o) ≡ Some a
     → (o ≡ Some a → Adds id (kept_endings others) (kept_endings rows) (ending_of a r ∷ [])) → Adds id (kept_endings (if test then Gone b.id b.session r ∷ rows else Waiting b ∷ others)) (kept_endings rows) (ending_of a r ∷ [])
-refused_if id n true r a b rows others o h is l e = subst (λ (x : Asked Command). Adds id (ending_of b r ∷ kept_endings rows) (kept_endings rows) (ending_of x r ∷ [])) (some_same b a l)
+refused_if id n true r a b rows others o h is l e = subst (λ (x : Request Command). Adds id (ending_of b r ∷ kept_endings rows) (kept_endings rows) (ending_of x r ∷ [])) (some_same b a l)
     (added id (ending_of b r) (kept_endings rows) (kept_endings rows) [] (none_after id n b.id rows h is) (adds-none id (kept_endings rows)))
 refused_if id n false r a b rows others o h is l e = e l
 
-kept-refused_at_begin : (id n : ℕ) (r : Reply) (holder : Option Session) (a : Asked Command) (rows : Rows) → NumberedFrom n rows → eligible holder rows ≡ Some a → Adds id (kept_endings (refused_at_begin r holder rows)) (kept_endings rows) (ending_of a r ∷ [])
+kept-refused_at_begin : (id n : ℕ) (r : Reply) (holder : Option Session) (a : Request Command) (rows : Rows) → NumberedFrom n rows → eligible holder rows ≡ Some a → Adds id (kept_endings (refused_at_begin r holder rows)) (kept_endings rows) (ending_of a r ∷ [])
 kept-refused_at_begin id n r holder a [] h l = cc
 kept-refused_at_begin id n r holder a (Waiting b ∷ rows) h l = refused_if id n (may_begin holder b) r a b rows (refused_at_begin r holder rows) (eligible holder rows) h.1 h.0 l (kept-refused_at_begin id (n + 1) r holder a rows h.1)
 kept-refused_at_begin id n r holder a (InWork b ∷ rows) h l = kept-refused_at_begin id (n + 1) r holder a rows h.1 l
@@ -166,7 +166,7 @@ kept-refused_at_begin id n r holder a (Gone i s q ∷ rows) h l = kept_before id
 
 -- a request begins, or is drawn
 
-kept_begun : (b : Bool) (a : Asked Command) (rows others : Rows) → kept_endings others ≡ kept_endings rows → kept_endings (if b then InWork a ∷ rows else Waiting a ∷ others) ≡ kept_endings rows
+kept_begun : (b : Bool) (a : Request Command) (rows others : Rows) → kept_endings others ≡ kept_endings rows → kept_endings (if b then InWork a ∷ rows else Waiting a ∷ others) ≡ kept_endings rows
 kept_begun true a rows others e = refl
 kept_begun false a rows others e = e
 
@@ -176,7 +176,7 @@ kept-begun holder (Waiting a ∷ rows) = kept_begun (may_begin holder a) a rows 
 kept-begun holder (InWork a ∷ rows) = kept-begun holder rows
 kept-begun holder (Gone i s q ∷ rows) = ap (λ (xs : List Ending). record { id = i; session = s; reply = q } ∷ xs) (kept-begun holder rows)
 
-kept-push : (rows : Rows) (a : Asked Command) → kept_endings (rows ++ Waiting a ∷ []) ≡ kept_endings rows
+kept-push : (rows : Rows) (a : Request Command) → kept_endings (rows ++ Waiting a ∷ []) ≡ kept_endings rows
 kept-push [] a = refl
 kept-push (Waiting b ∷ rows) a = kept-push rows a
 kept-push (InWork b ∷ rows) a = kept-push rows a

@@ -3,9 +3,9 @@ use Rattle.pad_words.specs.Bytes.{zero_block}
 use Rattle.flat_machine.specs.Ciphers.{Ciphers}
 use Rattle.flat_machine.specs.Facts.{outs_of}
 use Rattle.flat_machine.specs.Machine.{Act, fits, lines_from, next, run}
-use Rattle.flat_machine.specs.Standard.{standard_work}
+use Rattle.local_check.specs.StandardWork.{standard_rules}
 use Rattle.flat_machine.specs.State.{Flat, opening}
-use Rattle.flat_machine.specs.Works.{Setting}
+use Rattle.flat_machine.specs.Settings.{Setting}
 use Rattle.pad_steps.specs.Lines.{Line}
 use Rattle.pad_steps.specs.declared.answers.Out.{Out}
 use Rattle.pad_steps.specs.declared.answers.Reply.{Reply}
@@ -49,7 +49,7 @@ cipher = record { tdea = known_values; tdea_back = known_values_back }
 
 -- the standard work over these values; the fill word of a number is the number
 abbrev pub setting : Setting
-setting = record { cipher = cipher; works = standard_work cipher; fill_word = λ number. number }
+setting = record { cipher = cipher; pin_rules = standard_rules cipher.tdea; fill_word = λ number. number }
 
 -- a step that makes no device call
 abbrev pub quiet : Step → Act
@@ -70,7 +70,7 @@ said_after before acts = outs_of (lines_from setting (run setting before) acts)
 -- every word of the run fits
 abbrev pub all_fit : Flat → List Act → Bool
 all_fit state [] = true
-all_fit state (act ∷ acts) = fits setting state.public act.step act.word && all_fit (next setting state act.step act.word).state acts
+all_fit state (act ∷ acts) = fits setting state.shared act.step act.word && all_fit (next setting state act.step act.word).state acts
 
 -- the reply of a request that ended or was refused
 abbrev pub reply_in : Out → Option Reply

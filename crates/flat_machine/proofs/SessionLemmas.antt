@@ -1,9 +1,9 @@
--- Open sessions rise, and stay open as others come and go.
+-- Open sessions stay open as others come and go.
 use Rattle.flat_machine.proofs.BoolLemmas.{or_more, or_none, or_right, true_is_not_false}
-use Rattle.flat_machine.specs.Requests.{same_session}
-use Rattle.flat_machine.specs.SessionFacts.{session_numbers}
-use Rattle.flat_machine.specs.Sessions.{is_open, listening, with_classes, with_session, without_session}
-use Rattle.flat_machine.specs.declared.types.SessionRow.{SessionRow}
+use Rattle.pad_words.specs.Numbers.{same_session}
+use Rattle.session_book.specs.RisingLaws.{session-listening}
+use Rattle.session_book.specs.Sessions.{is_open, listening, with_classes, with_session, without_session}
+use Rattle.session_book.specs.declared.sessions.SessionRow.{SessionRow}
 use Rattle.pad_steps.specs.declared.steps.Classes.{Classes}
 use Rattle.pad_words.specs.declared.numbers.Session.{Session}
 use Rattle.std.proofs.Common.{arith, inl, inr, sym, ◌∙◌}
@@ -11,96 +11,6 @@ use Rattle.std.proofs.lemmas.Bool.{eqb-false, eqb-true, ltb-false, ltb-true, ne_
 use Rattle.std.specs.List.{list_any}
 use Rattle.std.specs.List.Sorted.{IsStrictlyIncreasing}
 use Rattle.std.specs.Prelude.{Bool, List, [], cond, false, filter, if◌then◌else◌, nat_lt, not, refl, suc, true, zero, ℕ, ◌+◌, ◌<◌, ◌||◌, ◌∷◌, ◌≡◌, ◌≤◌, ◌⊎◌}
-
--- open sessions rise
-
-abbrev AllAbove : ℕ → List SessionRow → Type 0
-AllAbove n [] = Unit {0}
-AllAbove n (row ∷ rows) = (n < row.session.number) × AllAbove n rows
-
-abbrev pub Rising : List SessionRow → Type 0
-Rising [] = Unit {0}
-Rising (row ∷ rows) = AllAbove row.session.number rows × Rising rows
-
-above-lower : (m n : ℕ) (rows : List SessionRow) → m < n → AllAbove n rows → AllAbove m rows
-above-lower m n [] l h = tt
-above-lower m n (row ∷ rows) l h = (omega (arith, l, h.0), above-lower m n rows l h.1)
-
-above_if : (m : ℕ) (b : Bool) (new row : SessionRow) (rows others : List SessionRow) → m < new.session.number → m < row.session.number → AllAbove m rows → AllAbove m others → AllAbove m (if b then new ∷ row ∷ rows else row ∷ others)
-above_if m true new row rows others l k h g = (l, (k, h))
-above_if m false new row rows others l k h g = (k, g)
-
-above-with_session : (m : ℕ) (new : SessionRow) (rows : List SessionRow) → m < new.session.number → AllAbove m rows → AllAbove m (with_session new rows)
-above-with_session m new [] l h = (l, tt)
-above-with_session m new (row ∷ rows) l h = above_if m (nat_lt new.session.number row.session.number) new row rows (with_session new rows) l h.0 h.1 (above-with_session m new rows l h.1)
-
-rising_if : (b : Bool) (new row : SessionRow) (rows : List SessionRow) → nat_lt new.session.number row.session.number ≡ b → same_session row.session new.session ≡ false → AllAbove row.session.number rows → Rising rows → Rising (with_session new rows)
-    → Rising (if b then new ∷ row ∷ rows else row ∷ with_session new rows)
-rising_if true new row rows e apart h up k = ((ltb-true new.session.number row.session.number e, above-lower new.session.number row.session.number rows (ltb-true new.session.number row.session.number e) h), (h, up))
-rising_if false new row rows e apart h up k =
-    let above : row.session.number < new.session.number = differs row.session.number new.session.number (ltb-false new.session.number row.session.number e) (eqb-false row.session.number new.session.number apart) in
-    (above-with_session row.session.number new rows above h, k)
-  where
-    differs : (m n : ℕ) → m ≤ n → (m ≡ n → ⊥) → m < n
-    differs m n l apart = by_order (lt_or_eq m n l)
-      where
-        lt_or_eq : (m n : ℕ) → m ≤ n → (m < n) ⊎ (m ≡ n)
-        lt_or_eq m n l = grind arith
-
-        by_order : (m < n) ⊎ (m ≡ n) → m < n
-        by_order (inl k) = k
-        by_order (inr e) = absurd (apart e)
-
-pub rising-with_session : (new : SessionRow) (rows : List SessionRow) → is_open new.session rows ≡ false → Rising rows → Rising (with_session new rows)
-rising-with_session new [] e h = (tt, tt)
-rising-with_session new (row ∷ rows) e h =
-    let apart = or_none (same_session row.session new.session) (is_open new.session rows) e in
-    rising_if (nat_lt new.session.number row.session.number) new row rows refl apart.0 h.0 h.1 (rising-with_session new rows apart.1 h.1)
-
-above_kept : (n : ℕ) (b : Bool) (row : SessionRow) (rows : List SessionRow) → n < row.session.number → AllAbove n rows → AllAbove n (cond b (row ∷ rows) rows)
-above_kept n true row rows l h = (l, h)
-above_kept n false row rows l h = h
-
-above-filter : (n : ℕ) (test : SessionRow → Bool) (rows : List SessionRow) → AllAbove n rows → AllAbove n (filter test rows)
-above-filter n test [] h = tt
-above-filter n test (row ∷ rows) h = above_kept n (test row) row (filter test rows) h.0 (above-filter n test rows h.1)
-
-rising_kept : (b : Bool) (row : SessionRow) (rows : List SessionRow) → AllAbove row.session.number rows → Rising rows → Rising (cond b (row ∷ rows) rows)
-rising_kept true row rows l h = (l, h)
-rising_kept false row rows l h = h
-
-pub rising-filter : (test : SessionRow → Bool) (rows : List SessionRow) → Rising rows → Rising (filter test rows)
-rising-filter test [] h = tt
-rising-filter test (row ∷ rows) h = rising_kept (test row) row (filter test rows) (above-filter row.session.number test rows h.0) (rising-filter test rows h.1)
-
-session_if : (b : Bool) (c : Classes) (row : SessionRow) → (if b then record row { classes = c } else row).session ≡ row.session
-session_if true c row = refl
-session_if false c row = refl
-
-session-listening : (s : Session) (c : Classes) (row : SessionRow) → (listening s c row).session ≡ row.session
-session-listening s c row = session_if (same_session row.session s) c row
-
-above-with_classes : (n : ℕ) (s : Session) (c : Classes) (rows : List SessionRow) → AllAbove n rows → AllAbove n (with_classes s c rows)
-above-with_classes n s c [] h = tt
-above-with_classes n s c (row ∷ rows) h = (rw (session-listening s c row) h.0, above-with_classes n s c rows h.1)
-
-pub rising-with_classes : (s : Session) (c : Classes) (rows : List SessionRow) → Rising rows → Rising (with_classes s c rows)
-rising-with_classes s c [] h = tt
-rising-with_classes s c (row ∷ rows) h = (rw (session-listening s c row) (above-with_classes row.session.number s c rows h.0), rising-with_classes s c rows h.1)
-
-pub increasing : (rows : List SessionRow) → Rising rows → IsStrictlyIncreasing (session_numbers rows)
-increasing [] h k l = absurd (none k l)
-  where
-    none : (k : ℕ) → k + 1 < 0 → ⊥
-    none k l = omega (arith, l)
-increasing (row ∷ []) h k l = absurd (none k l)
-  where
-    none : (k : ℕ) → k + 1 < 1 → ⊥
-    none k l = omega (arith, l)
-increasing (row ∷ next_row ∷ rows) h zero l = h.0.0
-increasing (row ∷ next_row ∷ rows) h (suc k) l =
-    let e : suc k + 1 ≡ suc (k + 1) = omega arith in
-    rw e (increasing (next_row ∷ rows) h.1 k (omega (arith, l)))
 
 -- a session that is open stays so
 

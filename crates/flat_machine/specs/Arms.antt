@@ -50,12 +50,9 @@ DueArmed calls armed (words.Bad slot) after = IsSpared calls armed (words.Bad sl
 
 -- a call of the step failed or was cut
 abbrev pub is_struck : DiskWord → Bool
-is_struck words.Quiet = false
-is_struck words.Done = false
 is_struck (words.Failed count) = true
 is_struck (words.Cut count) = true
-is_struck (words.Loaded rows) = false
-is_struck (words.Bad slot) = false
+is_struck other = false
 
 -- what is so of a step's word, and of what is armed after it. With nothing armed no call fails or is cut
 abbrev pub Due : Plan → Armed → DiskWord → Armed → Type 0

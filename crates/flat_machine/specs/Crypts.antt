@@ -4,8 +4,9 @@ use Rattle.crypt_commands.specs.Faults.{is_mac, wrong_length, wrong_mac_key}
 use Rattle.crypt_commands.specs.declared.CryptOut.{CryptOut}
 use Rattle.crypt_commands.specs.declared.CryptOut.TheVariants as output
 use Rattle.flat_machine.specs.Ciphers.{Ciphers}
-use Rattle.flat_machine.specs.Decisions.{Decided, Goes, and_then, unless}
-use Rattle.flat_machine.specs.Permits.{permit_maybe, permit}
+use Rattle.flat_machine.specs.Decisions.{unless, with_key, with_key_if}
+use Rattle.flat_machine.specs.declared.types.Work.{Work}
+use Rattle.flat_machine.specs.declared.types.Work.TheVariants as work
 use Rattle.key_table.specs.KeyRows.{KeyRows}
 use Rattle.key_attributes.specs.declared.Use.{Use}
 use Rattle.pad_steps.specs.declared.commands.Algorithm.{Algorithm}
@@ -30,11 +31,11 @@ module _ (cipher : Ciphers) where
   abbrev pub crypt_answer : CryptRequest → List ℕ → Option (List ℕ) → Answer
   crypt_answer request key sealing = answer_of (crypt_out cipher.tdea cipher.tdea_back request request.algorithm key (start_block cipher.tdea cipher.tdea_back request.start sealing))
 
-  -- the answer, or the first refusal: of the key for its use; of the start value's key for SVENCKEY; INVALIDKEYLENGTH; LENGTHERROR
-  abbrev pub decide_crypt : KeyRows → CryptRequest → Decided Answer
-  decide_crypt rows request =
-      and_then (permit rows request.key (crypt_use request.algorithm)) (λ key.
-      and_then (permit_maybe rows (sealing_key request.start) purpose.SvEncKey) (λ sealing.
+  -- answered, unless it is refused: of the key for its use; of the start value's key for SVENCKEY; INVALIDKEYLENGTH; LENGTHERROR
+  abbrev pub crypt_work : KeyRows → CryptRequest → Work
+  crypt_work rows request =
+      with_key rows request.key (crypt_use request.algorithm) (λ key.
+      with_key_if rows (sealing_key request.start) purpose.SvEncKey (λ sealing.
       unless (wrong_mac_key request.algorithm (length key)) refusals.InvalidKeyLength
       (unless (wrong_length request.direction (length request.body)) refusals.LengthError
-      (Goes (crypt_answer request key sealing)))))
+      (work.Answer (crypt_answer request key sealing)))))

@@ -1,10 +1,9 @@
 -- Power, loading of the store, and what a disk word does to the state. A step that would call the disk has a word that says what came of the calls.
 use Rattle.key_table.specs.Changes.{changed, Change}
 use Rattle.key_table.specs.KeyRows.{same_rows, put_row, KeyRows}
-use Rattle.flat_machine.specs.declared.types.Asked.{Asked}
-use Rattle.flat_machine.specs.State.{Public, Said, ends, dropping_pin, replies, unchanged}
+use Rattle.flat_machine.specs.declared.types.Owner.{Owner}
+use Rattle.flat_machine.specs.State.{Shared, Said, ends, dropping_pin, replies, unchanged}
 use Rattle.flat_machine.specs.declared.types.Device.TheVariants.{Bad, Off, Ready, Stopped}
-use Rattle.pad_steps.specs.declared.commands.Command.{Command}
 use Rattle.pad_steps.specs.declared.steps.DiskWord.{DiskWord}
 use Rattle.pad_steps.specs.declared.steps.Fate.{Fate}
 use Rattle.std.specs.Prelude.{Bool, List, None, Option, Some, [], false, if◌then◌else◌, length, nat_lt, not, slice_get, take, true, ℕ, ◌*◌, ◌==◌}
@@ -14,27 +13,24 @@ use Rattle.pad_steps.specs.declared.steps.DiskWord.TheVariants as words
 use Rattle.pad_steps.specs.declared.steps.Fate.TheVariants as fates
 
 -- the device goes off, by Off or by a cut in any step: every pending request ends CONNECTIONLOST in order of ids; the entry, the held PIN and the part buffer are cleared, and maintain is off. Sessions, lock and clock stay
-abbrev pub powers_off : Public → Said
-powers_off public = dropping_pin true (ends (λ request. true) refusals.ConnectionLost (record public { device = Off; part = []; maintain = false }))
+abbrev pub powers_off : Shared → Said
+powers_off shared = dropping_pin true (ends (λ request. true) refusals.ConnectionLost (record shared { device = Off; part = []; maintain = false }))
 
 -- what the word of a loading does: rows make the device ready and end a doubt, a fault stops it, a bad slot makes it bad, a cut leaves it off
-abbrev pub loads : Public → DiskWord → Said
-loads public words.Quiet = unchanged public
-loads public words.Done = unchanged public
-loads public (words.Failed count) = unchanged (record public { device = Stopped })
-loads public (words.Cut count) = powers_off public
-loads public (words.Loaded rows) = unchanged (record public { device = Ready; keys = rows; doubt = None; loaded = true })
-loads public (words.Bad slot) = unchanged (record public { device = Bad slot })
+abbrev pub loads : Shared → DiskWord → Said
+loads shared words.Quiet = unchanged shared
+loads shared words.Done = unchanged shared
+loads shared (words.Failed count) = unchanged (record shared { device = Stopped })
+loads shared (words.Cut count) = powers_off shared
+loads shared (words.Loaded rows) = unchanged (record shared { device = Ready; keys = rows; doubt = None; loaded = true })
+loads shared (words.Bad slot) = unchanged (record shared { device = Bad slot })
 
 -- what the word of a step does that replaces slots one by one: all were replaced and it is done; or after `count` of them a fault stopped the device or a cut came, and the next slot is in doubt
-abbrev pub replaces : Public → Asked Command → List Change → (Public → Said) → DiskWord → Said
-replaces public request todo done words.Quiet = done (record public { keys = changed todo public.keys })
-replaces public request todo done words.Done = done (record public { keys = changed todo public.keys })
-replaces public request todo done (words.Failed count) =
-    replies (record public { device = Stopped; keys = changed (take count todo) public.keys; doubt = slice_get todo count }) request (replied.No refusals.HardwareError)
-replaces public request todo done (words.Cut count) = powers_off (record public { keys = changed (take count todo) public.keys; doubt = slice_get todo count })
-replaces public request todo done (words.Loaded rows) = done (record public { keys = changed todo public.keys })
-replaces public request todo done (words.Bad slot) = done (record public { keys = changed todo public.keys })
+abbrev pub replaces : Shared → Owner → List Change → (Shared → Said) → DiskWord → Said
+replaces shared owner todo done (words.Failed count) =
+    replies (record shared { device = Stopped; keys = changed (take count todo) shared.keys; doubt = slice_get todo count }) owner (replied.No refusals.HardwareError)
+replaces shared owner todo done (words.Cut count) = powers_off (record shared { keys = changed (take count todo) shared.keys; doubt = slice_get todo count })
+replaces shared owner todo done other = done (record shared { keys = changed todo shared.keys })
 
 -- the loaded rows are the kept ones with the slot in doubt replaced
 abbrev pub doubt_carried_out : Option Change → KeyRows → KeyRows → Bool
@@ -42,19 +38,15 @@ doubt_carried_out None rows loaded = false
 doubt_carried_out (Some change) rows loaded = same_rows loaded (put_row change.slot change.row rows)
 
 -- how loaded rows compare with the kept ones: the first of this run; old, where they are the kept ones; new, where they are these with the slot in doubt replaced; else other
-abbrev pub fate_of : Public → KeyRows → Fate
-fate_of public rows = if not public.loaded then fates.First
-    else (if same_rows rows public.keys then fates.Old
-    else (if doubt_carried_out public.doubt public.keys rows then fates.New else fates.Other))
+abbrev pub fate_of : Shared → KeyRows → Fate
+fate_of shared rows = if not shared.loaded then fates.First
+    else (if same_rows rows shared.keys then fates.Old
+    else (if doubt_carried_out shared.doubt shared.keys rows then fates.New else fates.Other))
 
 -- the fate of a word, where it loaded rows
-abbrev pub word_fate : Public → DiskWord → Option Fate
-word_fate public words.Quiet = None
-word_fate public words.Done = None
-word_fate public (words.Failed count) = None
-word_fate public (words.Cut count) = None
-word_fate public (words.Loaded rows) = Some (fate_of public rows)
-word_fate public (words.Bad slot) = None
+abbrev pub word_fate : Shared → DiskWord → Option Fate
+word_fate shared (words.Loaded rows) = Some (fate_of shared rows)
+word_fate shared other = None
 
 -- the device calls that a step makes if none is struck: none; a loading; or replacements of slots
 pub data Plan : Type 0 where

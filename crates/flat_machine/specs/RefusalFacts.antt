@@ -1,36 +1,47 @@
 -- Words for what a refusal leaves as it is.
-use Rattle.flat_machine.specs.Decisions.{Decided, Goes, Stops}
-use Rattle.flat_machine.specs.FinishSteps.{crypt_now, delete_now, import_now, init_now, maintain_now, pin_now}
-use Rattle.flat_machine.specs.State.{Flat, Public}
-use Rattle.flat_machine.specs.Works.{Setting}
-use Rattle.flat_machine.specs.declared.types.Row.{Row}
+use Rattle.device_lock.specs.LockLine.{holder_of}
+use Rattle.entry_core.specs.Entries.{Entry, entry_of, entry_refusal}
+use Rattle.flat_machine.specs.Commands.{work_of}
+use Rattle.flat_machine.specs.EntrySteps.{first_of}
+use Rattle.flat_machine.specs.Settings.{Setting}
+use Rattle.flat_machine.specs.State.{Flat, Shared, device_refusal, is_off}
+use Rattle.pad_steps.specs.declared.answers.Reply.TheVariants as replied
+use Rattle.request_queue.specs.Requests.{eligible, refused_at_begin, request_in_work}
+use Rattle.request_queue.specs.declared.requests.Request.{Request}
+use Rattle.request_queue.specs.declared.requests.RequestRow.{RequestRow}
+use Rattle.flat_machine.specs.declared.types.Work.{Work}
+use Rattle.flat_machine.specs.declared.types.Work.TheVariants as work
 use Rattle.pad_steps.specs.declared.answers.Refusal.{Refusal}
 use Rattle.pad_steps.specs.declared.answers.Reply.{Reply}
 use Rattle.pad_steps.specs.declared.commands.Command.{Command}
-use Rattle.std.specs.Prelude.{List, None, Option, Some, ℕ, ◌≡◌}
-use Rattle.pad_steps.specs.declared.answers.Refusal.TheVariants as refusals
-use Rattle.pad_steps.specs.declared.commands.Command.TheVariants as commands
+use Rattle.std.specs.Prelude.{List, None, Option, Some, false, length, ◌≡◌}
 
--- the refusal that a decision stops with, if it stops
-abbrev pub refusal_in : {A : Type 0} → Decided A → Option Refusal
-refusal_in (Goes value) = None
-refusal_in (Stops refusal accused) = Some refusal
+-- the refusal of a work that is one
+abbrev pub refusal_in : Work → Option Refusal
+refusal_in (work.Refuse refusal accused) = Some refusal
+refusal_in other = None
 
--- why a command that is finished now is refused for a condition of its own, if it is, by the number of digits held
-abbrev pub finish_refusal : Setting → Public → ℕ → Command → Option Refusal
-finish_refusal set public count (commands.GetPin rules) = None
-finish_refusal set public count (commands.GetData rules) = None
-finish_refusal set public count (commands.SecureKeyEntry rules) = None
-finish_refusal set public count (commands.MaintainPin on) = refusal_in (maintain_now public on)
-finish_refusal set public count (commands.Pin wanted) = refusal_in (pin_now set.works public count wanted)
-finish_refusal set public count (commands.Crypt wanted) = refusal_in (crypt_now set.cipher public wanted)
-finish_refusal set public count (commands.ImportKey wanted) = refusal_in (import_now set.cipher public wanted)
-finish_refusal set public count (commands.DeleteKey name) = refusal_in (delete_now public name)
-finish_refusal set public count commands.Init = refusal_in (init_now public)
-finish_refusal set public count commands.Reset = None
-finish_refusal set public count commands.RsaImport = Some refusals.UnsuppCommand
-
--- after the step the requests are these, and the rest of the public part and the held PIN are as before
-pub record ChangesRequestsAlone (state after : Flat) (requests : List (Row Command Reply)) : Type 0 where
-  pub public : after.public ≡ record state.public { requests = requests }
+-- after the step the requests are these, and the rest of the shared part and the held PIN are as before
+pub record ChangesRequestsAlone (state after : Flat) (requests : List (RequestRow Command Reply)) : Type 0 where
+  pub shared : after.shared ≡ record state.shared { requests = requests }
   pub held : after.held ≡ state.held
+
+-- the entry that comes into work next is refused so as it begins
+pub record IsRefusedAtBegin (shared : Shared) (refusal : Refusal) : Type 0 where
+  pub on : is_off shared.device ≡ false
+  pub idle : request_in_work shared.requests ≡ None
+  pub request : Request Command
+  pub next : eligible (holder_of shared.line) shared.requests ≡ Some request
+  pub entry : Entry
+  pub asked : entry_of request.command ≡ Some entry
+  pub why : first_of (device_refusal shared.device) (entry_refusal entry) ≡ Some refusal
+
+-- the requests after such a Begin
+abbrev pub requests_refused_at_begin : Refusal → Shared → List (RequestRow Command Reply)
+requests_refused_at_begin refusal shared = refused_at_begin (replied.No refusal) (holder_of shared.line) shared.requests
+
+-- the command in work is refused so as it is finished, for a condition of its own
+pub record IsRefusedAtFinish (set : Setting) (state : Flat) (refusal : Refusal) : Type 0 where
+  pub request : Request Command
+  pub in_work : request_in_work state.shared.requests ≡ Some request
+  pub why : refusal_in (work_of set state.shared (length state.held) request.command) ≡ Some refusal

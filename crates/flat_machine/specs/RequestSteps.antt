@@ -4,13 +4,16 @@ use Rattle.check_values.specs.CheckValues.{check_value}
 use Rattle.crypt_commands.specs.Faults.{is_decrypt, is_mac}
 use Rattle.key_import.specs.Imports.{is_part}
 use Rattle.key_table.specs.KeyRows.{names_of, find_row}
-use Rattle.flat_machine.specs.Requests.{Found, Nowhere, Replied, StillPending, look, pending_count, pending_where, same_session}
-use Rattle.flat_machine.specs.declared.types.Asked.{Asked}
-use Rattle.flat_machine.specs.declared.types.Row.TheVariants.{Waiting}
+use Rattle.request_queue.specs.Requests.{Found, Nowhere, Replied, StillPending, is_due, look, pending_count, pending_where}
+use Rattle.pad_words.specs.Numbers.{same_session}
+use Rattle.request_queue.specs.declared.requests.Request.{Request}
+use Rattle.request_queue.specs.declared.requests.RequestRow.TheVariants.{Waiting}
+use Rattle.flat_machine.specs.PinCommands.{admit_refusal}
 use Rattle.flat_machine.specs.SessionSteps.{if_open}
-use Rattle.flat_machine.specs.Sessions.{floor_of, holder_of, is_open, locked_out}
-use Rattle.flat_machine.specs.State.{Public, Said, device_number, ends, is_off, is_ready, with_outs_before, running, says}
-use Rattle.flat_machine.specs.Works.{Works}
+use Rattle.session_book.specs.Sessions.{floor_of, is_open}
+use Rattle.device_lock.specs.LockLine.{holder_of, locked_out}
+use Rattle.flat_machine.specs.State.{Shared, Said, device_number, ends, is_off, is_ready, with_outs_before, running_entry, says}
+use Rattle.pin_blocks.specs.PinRules.{PinRules}
 use Rattle.flat_machine.specs.declared.types.Device.{Device}
 use Rattle.flat_machine.specs.declared.types.Device.TheVariants.{Bad, Off, Ready, Stopped}
 use Rattle.key_attributes.specs.UseBits.{has_construct, has_secure_construct, under_construction, uses_valid}
@@ -28,7 +31,7 @@ use Rattle.pad_steps.specs.declared.commands.Start.{Start}
 use Rattle.pad_steps.specs.declared.answers.StatusView.{StatusView}
 use Rattle.pad_steps.specs.declared.answers.Told.{Told}
 use Rattle.pad_words.specs.declared.numbers.Session.{Session}
-use Rattle.std.specs.Prelude.{Bool, List, None, Option, Some, [], false, if◌then◌else◌, is_some, length, nat_le, nat_lt, not, true, ℕ, ◌&&◌, ◌++◌, ◌+◌, ◌-◌, ◌==◌, ◌||◌, ◌∷◌}
+use Rattle.std.specs.Prelude.{Bool, List, None, Option, Some, [], false, if◌then◌else◌, is_some, length, nat_le, nat_lt, not, option_map, true, ℕ, ◌&&◌, ◌++◌, ◌+◌, ◌==◌, ◌||◌, ◌∷◌}
 use Rattle.pad_steps.specs.declared.answers.Out.TheVariants as out
 use Rattle.pad_steps.specs.declared.answers.Told.TheVariants as told
 use Rattle.pad_steps.specs.declared.answers.Refusal.TheVariants as refusals
@@ -48,19 +51,13 @@ is_part_count count = (count == 16) || (count == 32) || (count == 48)
 
 -- the algorithm is cipher feedback, which is left out
 abbrev pub is_cfb : Algorithm → Bool
-is_cfb mode.Ecb = false
-is_cfb mode.Cbc = false
 is_cfb mode.Cfb = true
-is_cfb mode.Mac = false
-is_cfb mode.Retail = false
+is_cfb other = false
 
 -- the algorithm is cipher block chaining
 abbrev pub is_cbc : Algorithm → Bool
-is_cbc mode.Ecb = false
 is_cbc mode.Cbc = true
-is_cbc mode.Cfb = false
-is_cbc mode.Mac = false
-is_cbc mode.Retail = false
+is_cbc other = false
 
 -- a start value is given
 abbrev pub has_start : Start → Bool
@@ -81,18 +78,15 @@ abbrev pub invalid_if : Bool → Option Refusal
 invalid_if test = if test then Some refusals.InvalidData else None
 
 -- why a command is refused as it is submitted, for what it asks: UNSUPPCOMMAND, FORMATNOTSUPPORTED, MODENOTSUPPORTED or INVALIDDATA
-abbrev pub command_refusal : Works → Command → Option Refusal
-command_refusal works (commands.GetPin rules) = invalid_if (rules_invalid rules)
-command_refusal works (commands.GetData rules) = invalid_if (rules_invalid rules)
-command_refusal works (commands.SecureKeyEntry rules) = invalid_if (not (is_part_count rules.count))
-command_refusal works (commands.MaintainPin on) = None
-command_refusal works (commands.Pin request) = works.admit request
-command_refusal works (commands.Crypt request) = if is_cfb request.algorithm then Some refusals.ModeNotSupported else invalid_if (crypt_invalid request)
-command_refusal works (commands.ImportKey request) = invalid_if (import_invalid request)
-command_refusal works (commands.DeleteKey name) = None
-command_refusal works commands.Init = None
-command_refusal works commands.Reset = None
-command_refusal works commands.RsaImport = Some refusals.UnsuppCommand
+abbrev pub command_refusal : PinRules → Command → Option Refusal
+command_refusal pin_rules (commands.GetPin rules) = invalid_if (rules_invalid rules)
+command_refusal pin_rules (commands.GetData rules) = invalid_if (rules_invalid rules)
+command_refusal pin_rules (commands.SecureKeyEntry rules) = invalid_if (not (is_part_count rules.count))
+command_refusal pin_rules (commands.Pin request) = option_map admit_refusal (pin_rules.admit request)
+command_refusal pin_rules (commands.Crypt request) = if is_cfb request.algorithm then Some refusals.ModeNotSupported else invalid_if (crypt_invalid request)
+command_refusal pin_rules (commands.ImportKey request) = invalid_if (import_invalid request)
+command_refusal pin_rules commands.RsaImport = Some refusals.UnsuppCommand
+command_refusal pin_rules other = None
 
 -- LOCKED with the session that holds the lock, if another does
 abbrev pub or_locked : Option Session → Option Refusal → Option Refusal
@@ -100,53 +94,49 @@ or_locked None rest = rest
 or_locked (Some holder) rest = Some (refusals.Locked holder)
 
 -- why a Submit is refused, in this order: NOSESSION; CONNECTIONLOST where the device is off; LOCKED where another session holds the lock; QUEUEFULL where 16 of the session's requests are pending; then for what the command asks
-abbrev pub submit_refusal : Works → Public → Session → Command → Option Refusal
-submit_refusal works public session command = if not (is_open session public.sessions) then Some refusals.NoSession
-    else (if is_off public.device then Some refusals.ConnectionLost
-    else or_locked (locked_out session public.line)
-    (if nat_le 16 (pending_count session public.requests) then Some (refusals.QueueFull 16) else command_refusal works command))
+abbrev pub submit_refusal : PinRules → Shared → Session → Command → Option Refusal
+submit_refusal pin_rules shared session command = if not (is_open session shared.sessions) then Some refusals.NoSession
+    else (if is_off shared.device then Some refusals.ConnectionLost
+    else or_locked (locked_out session shared.line)
+    (if nat_le 16 (pending_count session shared.requests) then Some (refusals.QueueFull 16) else command_refusal pin_rules command))
 
 -- a refused Submit draws no id and changes nothing; else the request gets the next id, from 1 on, and waits
-abbrev pub submit_by : Option Refusal → Public → Session → ℕ → Command → Said
-submit_by (Some refusal) public session limit command = says public (out.Refused session refusal)
-submit_by None public session limit command = says
-    (record public { requests = public.requests ++ Waiting (record { id = length public.requests + 1; session = session; submitted = public.clock; limit = limit; command = command }) ∷ [] })
-    (out.Request session (length public.requests + 1))
+abbrev pub submit_by : Option Refusal → Shared → Session → ℕ → Command → Said
+submit_by (Some refusal) shared session limit command = says shared (out.Refused session refusal)
+submit_by None shared session limit command = says
+    (record shared { requests = shared.requests ++ Waiting (record { id = length shared.requests + 1; session = session; submitted = shared.clock; limit = limit; command = command }) ∷ [] })
+    (out.Request session (length shared.requests + 1))
 
 -- Submit
-abbrev pub next_submit : Works → Public → Session → ℕ → Command → Said
-next_submit works public session limit command = submit_by (submit_refusal works public session command) public session limit command
+abbrev pub next_submit : PinRules → Shared → Session → ℕ → Command → Said
+next_submit pin_rules shared session limit command = submit_by (submit_refusal pin_rules shared session command) shared session limit command
 
 -- a Cancel of the session means this request: id 0 means all of its own, another id the one above its floor
-abbrev pub is_canceled : Public → Session → ℕ → Asked Command → Bool
-is_canceled public session id request = same_session request.session session && ((id == 0) || ((request.id == id) && nat_lt (floor_of session public.sessions) request.id))
+abbrev pub is_canceled : Shared → Session → ℕ → Request Command → Bool
+is_canceled shared session id request = same_session request.session session && ((id == 0) || ((request.id == id) && nat_lt (floor_of session shared.sessions) request.id))
 
 -- the number of requests that end is told before their replies; INVALIDREQID where an id other than 0 names none
-abbrev pub cancels : Public → Session → ℕ → List (Asked Command) → Said
-cancels public session id found = if not (id == 0) && (length found == 0) then says public (out.Told session (told.No refusals.InvalidReqId))
-    else with_outs_before (out.Told session (told.Canceled (length found)) ∷ []) (ends (is_canceled public session id) refusals.Canceled public)
+abbrev pub cancels : Shared → Session → ℕ → List (Request Command) → Said
+cancels shared session id found = if not (id == 0) && (length found == 0) then says shared (out.Told session (told.No refusals.InvalidReqId))
+    else with_outs_before (out.Told session (told.Canceled (length found)) ∷ []) (ends (is_canceled shared session id) refusals.Canceled shared)
 
 -- Cancel
-abbrev pub next_cancel : Public → Session → ℕ → Said
-next_cancel public session id = if_open public session (cancels public session id (pending_where (is_canceled public session id) public.requests))
-
--- the request has a limit, and was submitted at least that many ticks ago
-abbrev pub is_due : ℕ → Asked Command → Bool
-is_due clock request = not (request.limit == 0) && nat_le request.limit (clock - request.submitted)
+abbrev pub next_cancel : Shared → Session → ℕ → Said
+next_cancel shared session id = if_open shared session (cancels shared session id (pending_where (is_canceled shared session id) shared.requests))
 
 -- Tick: the clock goes on, and each request that is due then ends TIMEOUT
-abbrev pub next_tick : Public → ℕ → Said
-next_tick public ticks = ends (is_due (public.clock + ticks)) refusals.Timeout (record public { clock = public.clock + ticks })
+abbrev pub next_tick : Shared → ℕ → Said
+next_tick shared ticks = ends (is_due (shared.clock + ticks)) refusals.Timeout (record shared { clock = shared.clock + ticks })
 
 -- the answer to `status` (WFS_INF_PIN_STATUS in outline); keys are counted where the device is ready
-abbrev pub status_view : Public → Bool → Session → StatusView
-status_view public pin session = record {
-  state = device_number public.device;
-  keys = if is_ready public.device then length public.keys else 0;
-  holder = holder_of public.line;
-  entry = is_some (running public);
+abbrev pub status_view : Shared → Bool → Session → StatusView
+status_view shared pin session = record {
+  state = device_number shared.device;
+  keys = if is_ready shared.device then length shared.keys else 0;
+  holder = holder_of shared.line;
+  entry = is_some (running_entry shared);
   pin = pin;
-  pending = pending_count session public.requests;
+  pending = pending_count session shared.requests;
 }
 
 -- the answer to `key` (WFS_INF_PIN_KEY_DETAIL in outline): name, uses, length and the check value of the zero block, which a key under construction has not
@@ -172,12 +162,12 @@ told_request id StillPending = told.Pending
 told_request id (Replied reply) = told.Reply id reply
 
 -- the answer to a question
-abbrev pub answer_to : Ciphers → Public → Bool → Session → Question → Told
-answer_to cipher public pin session questions.Status = told.Status (status_view public pin session)
-answer_to cipher public pin session (questions.Key name) = told_ready public.device (told_key cipher (find_row name public.keys))
-answer_to cipher public pin session questions.Names = told_ready public.device (told.Names (names_of public.keys))
-answer_to cipher public pin session (questions.Reply id) = told_request id (look session (floor_of session public.sessions) id public.requests)
+abbrev pub answer_to : Ciphers → Shared → Bool → Session → Question → Told
+answer_to cipher shared pin session questions.Status = told.Status (status_view shared pin session)
+answer_to cipher shared pin session (questions.Key name) = told_ready shared.device (told_key cipher (find_row name shared.keys))
+answer_to cipher shared pin session questions.Names = told_ready shared.device (told.Names (names_of shared.keys))
+answer_to cipher shared pin session (questions.Reply id) = told_request id (look session (floor_of session shared.sessions) id shared.requests)
 
 -- Ask: answered also while another session holds the lock
-abbrev pub next_ask : Ciphers → Public → Bool → Session → Question → Said
-next_ask cipher public pin session question = if_open public session (says public (out.Told session (answer_to cipher public pin session question)))
+abbrev pub next_ask : Ciphers → Shared → Bool → Session → Question → Said
+next_ask cipher shared pin session question = if_open shared session (says shared (out.Told session (answer_to cipher shared pin session question)))

@@ -1,15 +1,15 @@
--- The machine's state, and what a step does to it. A digit of a PIN stands in two fields of `Flat` alone, `presses` and `held`: a step that cannot see them is a function on `Public`.
-use Rattle.flat_machine.specs.Decisions.{Decided, Goes, Stops}
-use Rattle.flat_machine.specs.Entries.{Entry, entry_of}
+-- The machine's state, and what a step does to it. A digit of a PIN stands in two fields of `Flat` alone, `presses` and `held`: a step that cannot see them is a function on `Shared`.
+use Rattle.entry_core.specs.Entries.{Entry, entry_of}
 use Rattle.key_table.specs.Changes.{Change}
 use Rattle.key_table.specs.KeyRows.{KeyRows}
-use Rattle.flat_machine.specs.Requests.{ended_where, finished, pending_where, working}
-use Rattle.flat_machine.specs.declared.types.Asked.{Asked}
-use Rattle.flat_machine.specs.declared.types.Row.{Row}
+use Rattle.request_queue.specs.Requests.{ended_where, finished, pending_where, request_in_work}
+use Rattle.request_queue.specs.declared.requests.Request.{Request}
+use Rattle.flat_machine.specs.declared.types.Owner.{Owner}
+use Rattle.request_queue.specs.declared.requests.RequestRow.{RequestRow}
 use Rattle.flat_machine.specs.Sessions.{service_events}
 use Rattle.flat_machine.specs.declared.types.Device.{Device}
 use Rattle.flat_machine.specs.declared.types.Device.TheVariants.{Bad, Off, Ready, Stopped}
-use Rattle.flat_machine.specs.declared.types.SessionRow.{SessionRow}
+use Rattle.session_book.specs.declared.sessions.SessionRow.{SessionRow}
 use Rattle.key_source.specs.declared.Key.{Key}
 use Rattle.pad_steps.specs.declared.commands.Command.{Command}
 use Rattle.pad_steps.specs.declared.answers.Out.{Out}
@@ -22,56 +22,56 @@ use Rattle.pad_steps.specs.declared.answers.Reply.TheVariants as replied
 use Rattle.pad_steps.specs.declared.answers.Event.TheVariants as events
 use Rattle.pad_steps.specs.declared.answers.Refusal.TheVariants as refusals
 
--- all of the state that no digit of a PIN reaches: the device; the key rows; the slot in doubt with the row that it was to get; whether a loading succeeded in this run; the open sessions; the line for the lock; all requests of the run; the clock in ticks; the part buffer as nibbles; whether a used PIN is maintained; and how many fill words were drawn
-pub record Public : Type 0 where
+-- what twins share, key values and released answers with it: all of the state that no digit of a PIN reaches. It is the device; the key rows; the slot in doubt with the row that it was to get; whether a loading succeeded in this run; the open sessions; the line for the lock; all requests of the run; the clock in ticks; the part buffer as nibbles; whether a used PIN is maintained; and how many fill words were drawn
+pub record Shared : Type 0 where
   pub device : Device
   pub keys : KeyRows
   pub doubt : Option Change
   pub loaded : Bool
   pub sessions : List SessionRow
   pub line : List Session
-  pub requests : List (Row Command Reply)
+  pub requests : List (RequestRow Command Reply)
   pub clock : ℕ
   pub part : List ℕ
   pub maintain : Bool
   pub drawn : ℕ
 
--- a state: the public part, the active keys pressed in the running entry with the latest first, and the digits of the held PIN, empty for none
+-- a state: the shared part, the active keys pressed in the running entry with the latest first, and the digits of the held PIN, empty for none
 pub record Flat : Type 0 where
-  pub public : Public
+  pub shared : Shared
   pub presses : List Key
   pub held : List ℕ
 
--- the public part before the first step: the device off, every list empty, clock 0
-abbrev pub blank : Public
+-- the shared part before the first step: the device off, every list empty, clock 0
+abbrev pub blank : Shared
 blank = record { device = Off; keys = []; doubt = None; loaded = false; sessions = []; line = []; requests = []; clock = 0; part = []; maintain = false; drawn = 0 }
 
 -- the state before the first step: the machine is off
 abbrev pub opening : Flat
-opening = record { public = blank; presses = []; held = [] }
+opening = record { shared = blank; presses = []; held = [] }
 
 -- the state of a pad that is on from the start, with an empty store: where runs begin for a program that has no disk
 abbrev pub ready_opening : Flat
-ready_opening = record { public = record blank { device = Ready }; presses = []; held = [] }
+ready_opening = record { shared = record blank { device = Ready }; presses = []; held = [] }
 
--- a step's effect: the public part after it, what it says in order, and whether the held PIN and the presses are dropped
+-- a step's effect: the shared part after it, what it says in order, and whether the held PIN and the presses are dropped
 pub record Said : Type 0 where
-  pub public : Public
+  pub shared : Shared
   pub outs : List Out
   pub drops_pin : Bool
   pub drops_presses : Bool
 
--- the public part after, and these outs; PIN and presses stay
-abbrev pub said : Public → List Out → Said
-said public outs = record { public = public; outs = outs; drops_pin = false; drops_presses = false }
+-- the shared part after, and these outs; PIN and presses stay
+abbrev pub said : Shared → List Out → Said
+said shared outs = record { shared = shared; outs = outs; drops_pin = false; drops_presses = false }
 
--- the public part after, and one out
-abbrev pub says : Public → Out → Said
-says public only = said public (only ∷ [])
+-- the shared part after, and one out
+abbrev pub says : Shared → Out → Said
+says shared only = said shared (only ∷ [])
 
--- nothing happens: the public part stays and nothing is said
-abbrev pub unchanged : Public → Said
-unchanged public = said public []
+-- nothing happens: the shared part stays and nothing is said
+abbrev pub unchanged : Shared → Said
+unchanged shared = said shared []
 
 -- the effect with these outs before its own
 abbrev pub with_outs_before : List Out → Said → Said
@@ -98,7 +98,7 @@ pub record After : Type 0 where
 abbrev pub after_said : Flat → Said → After
 after_said state effect = record {
   state = record {
-    public = effect.public;
+    shared = effect.shared;
     presses = if effect.drops_presses then [] else state.presses;
     held = if effect.drops_pin then [] else state.held;
   };
@@ -112,18 +112,18 @@ pub record Running : Type 0 where
   pub entry : Entry
 
 -- a request in work runs the entry that its command asks for, if it asks for one
-abbrev pub running_by : Asked Command → Option Entry → Option Running
+abbrev pub running_by : Request Command → Option Entry → Option Running
 running_by request None = None
 running_by request (Some entry) = Some (record { id = request.id; session = request.session; entry = entry })
 
 -- the entry that the request in work runs, if there is one and it is an entry command
-abbrev pub running_in : Option (Asked Command) → Option Running
+abbrev pub running_in : Option (Request Command) → Option Running
 running_in None = None
 running_in (Some request) = running_by request (entry_of request.command)
 
 -- the entry that runs
-abbrev pub running : Public → Option Running
-running public = running_in (working public.requests)
+abbrev pub running_entry : Shared → Option Running
+running_entry shared = running_in (request_in_work shared.requests)
 
 -- the device as a number: off 0, ready 1, stopped 2, bad 3
 abbrev pub device_number : Device → ℕ
@@ -135,16 +135,12 @@ device_number (Bad slot) = 3
 -- the device is off
 abbrev pub is_off : Device → Bool
 is_off Off = true
-is_off Ready = false
-is_off Stopped = false
-is_off (Bad slot) = false
+is_off other = false
 
 -- the device is ready
 abbrev pub is_ready : Device → Bool
-is_ready Off = false
 is_ready Ready = true
-is_ready Stopped = false
-is_ready (Bad slot) = false
+is_ready other = false
 
 -- HARDWAREERROR of a stopped device, BADSTORE of one whose store reads as bad
 abbrev pub device_refusal : Device → Option Refusal
@@ -153,36 +149,30 @@ device_refusal Ready = None
 device_refusal Stopped = Some refusals.HardwareError
 device_refusal (Bad slot) = Some (refusals.BadStore slot)
 
--- what the command comes to, unless the device refuses it first
-abbrev pub on_device : {A : Type 0} → Option Refusal → Decided A → Decided A
-on_device None rest = rest
-on_device (Some refusal) rest = Stops refusal None
-
 -- there is a request in work, and it passes the test
-abbrev pub work_ends : (Asked Command → Bool) → Option (Asked Command) → Bool
+abbrev pub work_ends : (Request Command → Bool) → Option (Request Command) → Bool
 work_ends test None = false
 work_ends test (Some request) = test request
 
 -- the pending requests that pass the test end with this refusal, in order of their ids; the presses are dropped where the request in work is one of them
-abbrev pub ends : (Asked Command → Bool) → Refusal → Public → Said
-ends test refusal public = dropping_presses (work_ends test (working public.requests)) (said
-    (record public { requests = ended_where test (replied.No refusal) public.requests })
-    (map (λ request. out.Ended request.session request.id (replied.No refusal)) (pending_where test public.requests)))
+abbrev pub ends : (Request Command → Bool) → Refusal → Shared → Said
+ends test refusal shared = dropping_presses (work_ends test (request_in_work shared.requests)) (said
+    (record shared { requests = ended_where test (replied.No refusal) shared.requests })
+    (map (λ request. out.Ended request.session request.id (replied.No refusal)) (pending_where test shared.requests)))
+
+-- whose a request is, and its id
+abbrev pub owner_of : Request Command → Owner
+owner_of request = record { id = request.id; session = request.session }
 
 -- the request in work ends with this reply
-abbrev pub replies : Public → Asked Command → Reply → Said
-replies public request reply = dropping_presses true (says (record public { requests = finished reply public.requests }) (out.Ended request.session request.id reply))
+abbrev pub replies : Shared → Owner → Reply → Said
+replies shared owner reply = dropping_presses true (says (record shared { requests = finished reply shared.requests }) (out.Ended owner.session owner.id reply))
 
 -- every service listener hears ILLEGAL_KEY_ACCESS of the accused key; without one nothing is said
-abbrev pub accuses : Public → Option (List ℕ) → Refusal → List Out
-accuses public None refusal = []
-accuses public (Some name) refusal = service_events public.sessions (events.IllegalKeyAccess name refusal)
+abbrev pub accuses : Shared → Option (List ℕ) → Refusal → List Out
+accuses shared None refusal = []
+accuses shared (Some name) refusal = service_events shared.sessions (events.IllegalKeyAccess name refusal)
 
 -- the request in work ends with this refusal, and then service listeners hear of the key that it accuses
-abbrev pub refuses : Public → Asked Command → Refusal → Option (List ℕ) → Said
-refuses public request refusal accused = with_outs_after (accuses public accused refusal) (replies public request (replied.No refusal))
-
--- the request in work goes on with the value, or ends with the refusal
-abbrev pub decided : {A : Type 0} → Public → Asked Command → Decided A → (A → Said) → Said
-decided public request (Stops refusal accused) go_on = refuses public request refusal accused
-decided public request (Goes value) go_on = go_on value
+abbrev pub refuses : Shared → Owner → Refusal → Option (List ℕ) → Said
+refuses shared owner refusal accused = with_outs_after (accuses shared accused refusal) (replies shared owner (replied.No refusal))

@@ -4,7 +4,7 @@ use Rattle.key_table.specs.KeyRows.{KeyRows}
 use Rattle.flat_machine.specs.Machine.{Act, next, plan}
 use Rattle.flat_machine.specs.Power.{Loading, Nothing, Plan, Replacing}
 use Rattle.flat_machine.specs.State.{Flat, opening}
-use Rattle.flat_machine.specs.Works.{Setting}
+use Rattle.flat_machine.specs.Settings.{Setting}
 use Rattle.key_attributes.specs.declared.KeyRow.{KeyRow}
 use Rattle.pad_steps.specs.declared.steps.DiskWord.{DiskWord}
 use Rattle.std.specs.Prelude.{Bool, IsTrue, List, None, Option, Some, [], slice_get, take, ℕ, ◌∷◌, ◌≡◌}
@@ -39,13 +39,11 @@ module _ (layout : Layout) where
 
   -- what is known after replacements with this word
   abbrev pub replaced : List Change → DiskWord → Known → Known
-  replaced todo words.Quiet (These bytes) = These bytes
   replaced todo words.Done (These bytes) = These (put_all bytes todo)
   replaced todo (words.Failed count) (These bytes) = struck_at (put_all bytes (take count todo)) (slice_get todo count)
   replaced todo (words.Cut count) (These bytes) = struck_at (put_all bytes (take count todo)) (slice_get todo count)
-  replaced todo (words.Loaded rows) (These bytes) = These bytes
-  replaced todo (words.Bad slot) (These bytes) = These bytes
   replaced todo word (TornFrom bytes change) = TornFrom bytes change
+  replaced todo other (These bytes) = These bytes
 
   -- what is known after a step that loaded nothing
   abbrev pub known_after : Plan → DiskWord → Known → Known
@@ -66,7 +64,7 @@ module _ (layout : Layout) (set : Setting) where
   -- the store can have these bytes after the run from a state in which this was known
   abbrev pub HoldsFrom : Flat → Known → List Act → List ℕ → Type 0
   HoldsFrom state known [] bytes = CanBe layout known bytes
-  HoldsFrom state known (act ∷ acts) bytes = HoldsStep layout (plan set state.public act.step) act.word known (λ after. HoldsFrom (next set state act.step act.word).state after acts bytes)
+  HoldsFrom state known (act ∷ acts) bytes = HoldsStep layout (plan set state.shared act.step) act.word known (λ after. HoldsFrom (next set state act.step act.word).state after acts bytes)
 
   -- the store can have these bytes after the run, where the first loading of it read the bytes `first`
   abbrev pub Holds : List ℕ → List Act → List ℕ → Type 0

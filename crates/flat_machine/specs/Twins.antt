@@ -1,8 +1,8 @@
 -- Twins: runs that differ in the digits of PINs alone, and release the same values.
-use Rattle.flat_machine.specs.Entries.{Entry, is_secret}
-use Rattle.flat_machine.specs.Machine.{Act, masked, next, releases_from}
-use Rattle.flat_machine.specs.State.{After, Flat, Public, Running, running}
-use Rattle.flat_machine.specs.Works.{Setting}
+use Rattle.entry_core.specs.Entries.{Entry, is_secret}
+use Rattle.flat_machine.specs.Machine.{Act, is_masked, next, releases_from}
+use Rattle.flat_machine.specs.State.{After, Flat, Shared, Running, running_entry}
+use Rattle.flat_machine.specs.Settings.{Setting}
 use Rattle.key_source.specs.declared.Key.{Key}
 use Rattle.pad_steps.specs.declared.steps.Step.{Step}
 use Rattle.std.specs.Prelude.{IsTrue, List, None, Option, Some, [], length, ◌∷◌, ◌≡◌, ◌⊎◌}
@@ -25,8 +25,8 @@ AlikeEntries (Some current) firsts seconds = AlikePresses current.entry firsts s
 
 -- two states that agree in everything but the digits of PINs: the held digits agree in number, the presses of a running PIN entry in number and place by place in all but the digit
 pub record Alike (first second : Flat) : Type 0 where
-  pub public : second.public ≡ first.public
-  pub presses : AlikeEntries (running first.public) first.presses second.presses
+  pub shared : second.shared ≡ first.shared
+  pub presses : AlikeEntries (running_entry first.shared) first.presses second.presses
   pub held : length second.held ≡ length first.held
 
 -- states that are alike, and the same said
@@ -35,15 +35,15 @@ pub record AlikeAfter (first second : After) : Type 0 where
   pub outs : second.outs ≡ first.outs
 
 -- the same step, or two presses that are masked
-abbrev pub TwinSteps : Public → Step → Step → Type 0
-TwinSteps public first second = (first ≡ second) ⊎ (IsTrue (masked public first) × IsTrue (masked public second))
+abbrev pub TwinSteps : Shared → Step → Step → Type 0
+TwinSteps shared first second = (first ≡ second) ⊎ (IsTrue (is_masked shared first) × IsTrue (is_masked shared second))
 
 module _ (set : Setting) where
   -- two runs from a state with the same words, whose steps differ in masked presses alone
   abbrev pub TwinsFrom : Flat → List Act → List Act → Type 0
   TwinsFrom state [] [] = Unit {0}
   TwinsFrom state (first ∷ firsts) (second ∷ seconds) = (second.word ≡ first.word)
-      × TwinSteps state.public first.step second.step
+      × TwinSteps state.shared first.step second.step
       × TwinsFrom (next set state first.step first.word).state firsts seconds
   TwinsFrom state [] (second ∷ seconds) = ⊥
   TwinsFrom state (first ∷ firsts) [] = ⊥

@@ -1,7 +1,8 @@
-//! Types of the state that the code has too.
+//! Types that the definitions share with the code.
 
-use pad_steps::{Classes, Completion, Shown};
-use pad_words::Session;
+use key_attributes::{KeyRow, KeyValue};
+use pad_steps::{Answer, PinRequest, Refusal};
+use pad_words::{KeyName, Session};
 
 /// The device: off, ready, stopped by a fault, or bad at a slot.
 #[derive(Clone, Copy, Debug, PartialEq, Eq)]
@@ -12,36 +13,45 @@ pub enum Device {
     Bad(u8),
 }
 
-/// An open session, the events that it hears, and the last id drawn before it.
+/// Whose a request is, and its id: all that a reply needs of it.
 #[derive(Clone, Copy, Debug, PartialEq, Eq)]
-pub struct SessionRow {
-    pub session: Session,
-    pub classes: Classes,
-    pub floor: u32,
-}
-
-/// What an active key does to an entry.
-#[derive(Clone, Copy, Debug, PartialEq, Eq)]
-pub enum Seen {
-    Ignored,
-    Took(Shown),
-    Ended(Shown, Completion),
-}
-
-/// A request as it was submitted: its id, its session, the clock then in ticks, its limit in ticks, and its command.
-#[derive(Drop)]
-pub struct Asked<C> {
+pub struct Owner {
     pub id: u32,
     pub session: Session,
-    pub submitted: u64,
-    pub limit: u32,
-    pub command: C,
 }
 
-/// A request, with what has become of it: it waits, is in work, or is gone with a reply.
+/// What a command in work comes to, before anything is done.
 #[derive(Drop)]
-pub enum Row<C, R> {
-    Waiting(Asked<C>),
-    InWork(Asked<C>),
-    Gone(u32, Session, R),
+pub enum Work {
+    /// Nothing yet: an entry ends by a key.
+    Waits,
+    /// It is refused, and the refusal may accuse a key.
+    Refuse {
+        refusal: Refusal,
+        accused: Option<KeyName>,
+    },
+    /// It is answered, and nothing else changes.
+    Answer(Answer),
+    /// From now on a used PIN is maintained, or is not.
+    Maintain(bool),
+    /// The slot gets the row, and the check value is answered. An import from the part buffer leaves it empty.
+    Keep {
+        slot: u8,
+        row: KeyRow,
+        check: Option<[u8; 3]>,
+        from_part: bool,
+    },
+    /// The slot is emptied.
+    Erase(u8),
+    /// All slots are emptied.
+    EraseAll,
+    /// The PIN work answers, under these one or two keys, and draws so many fill words.
+    Release {
+        request: PinRequest,
+        first: KeyValue,
+        second: Option<KeyValue>,
+        draws: u8,
+    },
+    /// The store is loaded.
+    Load,
 }

@@ -1,52 +1,66 @@
 //! What is so of the requests of every run.
 
-ghost use Rattle.std.specs.Prelude.{◌≡◌, ◌<◌, ◌≤◌, IsTrue, List, ℕ, Some, length, map, slice_get};
+ghost use Rattle.std.specs.Prelude.{◌≡◌, ◌<◌, ◌≤◌, ◌+◌, false, List, ℕ, Some, length, map};
 ghost use Rattle.std.specs.List.{range_with_len};
 ghost use Rattle.pad_words.specs.declared.numbers.Session.{Session};
-ghost use Rattle.pad_steps.specs.declared.answers.Out.TheVariants as out;
-ghost use Rattle.pad_steps.specs.declared.answers.Refusal.TheVariants as refusals;
-ghost use Rattle.pad_steps.specs.declared.answers.Reply.{Reply};
-ghost use Rattle.pad_steps.specs.declared.answers.Told.TheVariants as told;
 ghost use Rattle.pad_steps.specs.declared.steps.DiskWord.{DiskWord};
+ghost use Rattle.pad_steps.specs.declared.steps.Step.{Step};
+ghost use Rattle.flat_machine.specs.Kept.{Kept, kept_next};
+ghost use Rattle.request_queue.specs.Requests.{pending_count};
+ghost use Rattle.flat_machine.specs.Settings.{Setting};
+ghost use Rattle.flat_machine.specs.State.{Flat, is_off};
+ghost use Rattle.flat_machine.specs.Machine.{Act, next, next_work, run_from};
+ghost use Rattle.flat_machine.specs.Facts.{IsStart};
+ghost use Rattle.flat_machine.specs.RequestFacts.{draws, row_id, in_work, of_id, work_left, endings_told, endings_kept, KeepsEnded, IsBelowFloor, no_such_request};
+ghost use Rattle.flat_machine.specs.EveryRun.{InEveryRun};
+ghost use Rattle.pad_steps.specs.declared.answers.Out.TheVariants as out;
+ghost use Rattle.pad_steps.specs.declared.answers.Told.TheVariants as told;
 ghost use Rattle.pad_steps.specs.declared.steps.Question.TheVariants as questions;
 ghost use Rattle.pad_steps.specs.declared.steps.Step.TheVariants as steps;
-ghost use Rattle.flat_machine.specs.declared.types.Row.TheVariants.{Gone};
-ghost use Rattle.flat_machine.specs.Requests.{pending_count};
-ghost use Rattle.flat_machine.specs.Works.{Setting};
-ghost use Rattle.flat_machine.specs.State.{Flat, after_said, says};
-ghost use Rattle.flat_machine.specs.Sessions.{floor_of, is_open};
-ghost use Rattle.flat_machine.specs.Machine.{Act, next, run_from, lines_from};
-ghost use Rattle.flat_machine.specs.Facts.{IsStart, outs_of};
-ghost use Rattle.flat_machine.specs.RequestFacts.{row_id, in_work, endings, kept_endings, of_id};
 
 /// At most one request is in work.
 pub fn one_in_work()
-    ensures { (set : Setting) (start : Flat) (acts : List Act) → IsStart start → length (in_work (run_from set start acts).public.requests) ≤ 1 }
+    ensures { InEveryRun (λ set state. length (in_work state.shared.requests) ≤ 1) }
 {}
 
 /// Ids rise by one from 1: none is drawn twice, and none is left out.
 pub fn ids_count_up()
-    ensures { (set : Setting) (start : Flat) (acts : List Act) → IsStart start → map row_id (run_from set start acts).public.requests ≡ range_with_len 1 (length (run_from set start acts).public.requests) }
+    ensures { InEveryRun (λ set state. map row_id state.shared.requests ≡ range_with_len 1 (length state.shared.requests)) }
 {}
 
 /// A request that ended stays ended, with the same reply, whatever comes after.
 pub fn replies_stay()
-    ensures { (set : Setting) (state : Flat) (acts : List Act) (place id : ℕ) (session : Session) (reply : Reply) → slice_get state.public.requests place ≡ Some (Gone id session reply) → slice_get (run_from set state acts).public.requests place ≡ Some (Gone id session reply) }
+    ensures { (set : Setting) (state : Flat) (acts : List Act) → KeepsEnded state (run_from set state acts) }
 {}
 
 /// Each request that ended was told its end once, by its session and with the reply that is kept; no other end is told.
 pub fn one_reply()
-    ensures told { (set : Setting) (start : Flat) (acts : List Act) (id : ℕ) → IsStart start → of_id id (endings (outs_of (lines_from set start acts))) ≡ of_id id (kept_endings (run_from set start acts).public.requests) }
-    ensures once { (set : Setting) (start : Flat) (acts : List Act) (id : ℕ) → IsStart start → length (of_id id (kept_endings (run_from set start acts).public.requests)) ≤ 1 }
+    ensures told { (set : Setting) (start : Flat) (acts : List Act) (id : ℕ) → IsStart start →
+        of_id id (endings_told set start acts) ≡ of_id id (endings_kept (run_from set start acts)) }
+    ensures once { (set : Setting) (start : Flat) (acts : List Act) (id : ℕ) → IsStart start →
+        length (of_id id (endings_kept (run_from set start acts))) ≤ 1 }
 {}
 
 /// At most 16 requests of a session are pending.
 pub fn queue_bound()
-    ensures { (set : Setting) (start : Flat) (acts : List Act) (session : Session) → IsStart start → pending_count session (run_from set start acts).public.requests ≤ 16 }
+    ensures { (set : Setting) (start : Flat) (acts : List Act) (session : Session) → IsStart start →
+        pending_count session (run_from set start acts).shared.requests ≤ 16 }
 {}
 
 /// A session sees no request at or below its floor: to Cancel and to Ask such an id is none of its own.
 pub fn floor_hides()
-    ensures cancel { (set : Setting) (state : Flat) (session : Session) (id : ℕ) (word : DiskWord) → IsTrue (is_open session state.public.sessions) → 0 < id → id ≤ floor_of session state.public.sessions → next set state (steps.Cancel session id) word ≡ after_said state (says state.public (out.Told session (told.No refusals.InvalidReqId))) }
-    ensures ask { (set : Setting) (state : Flat) (session : Session) (id : ℕ) (word : DiskWord) → IsTrue (is_open session state.public.sessions) → id ≤ floor_of session state.public.sessions → next set state (steps.Ask session (questions.Reply id)) word ≡ after_said state (says state.public (out.Told session (told.No refusals.InvalidReqId))) }
+    ensures cancel { (set : Setting) (state : Flat) (session : Session) (id : ℕ) (word : DiskWord) → 0 < id →
+        IsBelowFloor state session id → next set state (steps.Cancel session id) word ≡ no_such_request state session }
+    ensures ask { (set : Setting) (state : Flat) (session : Session) (id : ℕ) (word : DiskWord) →
+        IsBelowFloor state session id → next set state (steps.Ask session (questions.Reply id)) word ≡ no_such_request state session }
+{}
+
+/// What is due comes to an end: a step that is due leaves less to do, whatever its word; and Submit draws one id at most, no
+/// other step any.
+pub fn due_steps_come_to_an_end()
+    ensures less { (set : Setting) (kept : Kept) (step : Step) (word : DiskWord) →
+        is_off kept.shared.device ≡ false → next_work kept.shared ≡ Some step →
+        work_left (kept_next set kept step word).state.shared.requests < work_left kept.shared.requests }
+    ensures ids { (set : Setting) (kept : Kept) (step : Step) (word : DiskWord) →
+        length (kept_next set kept step word).state.shared.requests ≤ length kept.shared.requests + draws step }
 {}

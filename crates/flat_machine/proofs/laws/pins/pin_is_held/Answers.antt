@@ -1,7 +1,7 @@
 use Rattle.flat_machine.proofs.PinHeld as lemma
 use Rattle.flat_machine.proofs.laws.pins.pin_is_held.Goals as goal
 use Rattle.std.specs.Prelude.{length}
-use Rattle.flat_machine.specs.Entries.{entered}
+use Rattle.entry_core.specs.Entries.{entered}
 
 pub returns-clause-after : goal.returns-clause-after
 returns-clause-after c = lemma.pin_after

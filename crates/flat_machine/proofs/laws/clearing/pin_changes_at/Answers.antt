@@ -1,0 +1,5 @@
+use Rattle.flat_machine.proofs.ClearingChanges as lemma
+use Rattle.flat_machine.proofs.laws.clearing.pin_changes_at.Goals as goal
+
+pub returns : goal.returns
+returns c = lemma.pin_changes
