@@ -1,7 +1,3 @@
-pub mod BookLemmas
-pub mod ImportLemmas
-pub mod PlanLemmas
-pub mod PressLemmas
-pub mod QueueLemmas
-pub mod RowLemmas
-pub mod WorkLemmas
+pub mod AdmittedLemmas
+pub mod HearerLemmas
+pub mod StepLemmas

@@ -1,4 +1,5 @@
-pub mod Book
-pub mod Decided
-pub mod Queue
+pub mod Does
+pub mod Memory
+pub mod Prepares
+pub mod Runs
 pub mod Stands

@@ -1,45 +1,39 @@
 // CRYPT: what a command comes to.
 ghost use Rattle.std.specs.Prelude.{◌≡◌, IfOk, false};
-ghost use Rattle.flat_machine.specs.Crypts.{crypt_use, decide_crypt};
+ghost use Rattle.flat_machine.specs.Crypts.{crypt_use, crypt_work};
 ghost use Rattle.flat_machine.specs.RequestSteps.{is_cfb};
-ghost use Rattle.flat_machine.specs.Standard.{triple_des};
-ghost use Rattle.pad_machine.specs.Decided.{crypt_decided};
+ghost use Rattle.flat_machine.specs.Settings.{triple_des};
 
-use crate::permits::permitted;
-use crate::refused::Refused;
+use crate::refusals::{denied, refused};
 use crypt_commands::{CryptFault, CryptOut, run_crypt};
+use flat_machine::types::Work;
 use key_attributes::Use;
 use key_table::KeyTable;
-use pad_steps::{Algorithm, CryptRequest, Refusal, Start};
+use pad_steps::{Algorithm, Answer, CryptRequest, Refusal, Start};
 use pad_words::NoMemory;
 use std::alloc::Global;
 
-/// What CRYPT comes to, or the first refusal that applies.
-pub fn crypted(
-    alloc: Global,
-    keys: &KeyTable,
-    request: &CryptRequest,
-) -> Result<Result<CryptOut, Refused>, NoMemory>
+/// What CRYPT comes to.
+pub fn crypt_work(alloc: Global, keys: &KeyTable, request: &CryptRequest) -> Result<Work, NoMemory>
     requires { is_cfb request.now.algorithm ≡ false }
-    ensures { IfOk result (λ found. decide_crypt triple_des keys.now request.now ≡ crypt_decided found) }
+    ensures work { IfOk result (λ work. work ≡ crypt_work triple_des keys.now request.now) }
 {
-    let key = match permitted(keys, &request.key, crypt_use(request.algorithm)) {
+    let key = match keys.permit(&request.key, crypt_use(request.algorithm)) {
         Ok(key) => key,
-        Err(refused) => return Ok(Err(refused)),
+        Err(why) => return Ok(denied(why, &request.key)),
     };
     let start_key = match &request.start {
         Start::Zero | Start::Clear(_) => None,
-        Start::Sealed(name, _) => match permitted(keys, name, Use::SvEncKey) {
+        Start::Sealed(name, _) => match keys.permit(name, Use::SvEncKey) {
             Ok(key) => Some(key),
-            Err(refused) => return Ok(Err(refused)),
+            Err(why) => return Ok(denied(why, name)),
         },
     };
     match run_crypt(alloc, request, key, start_key) {
-        Ok(out) => Ok(Ok(out)),
-        Err(CryptFault::InvalidKeyLength) => {
-            Ok(Err(Refused::of_none(Refusal::InvalidKeyLength)))
-        }
-        Err(CryptFault::LengthError) => Ok(Err(Refused::of_none(Refusal::LengthError))),
+        Ok(CryptOut::Bytes(bytes)) => Ok(Work::Answer(Answer::Crypt(bytes))),
+        Ok(CryptOut::Mac(code)) => Ok(Work::Answer(Answer::Mac(code))),
+        Err(CryptFault::InvalidKeyLength) => Ok(refused(Refusal::InvalidKeyLength)),
+        Err(CryptFault::LengthError) => Ok(refused(Refusal::LengthError)),
         Err(CryptFault::NoMemory) => Err(NoMemory),
     }
 }

@@ -1,43 +1,53 @@
-// Imports: what a command comes to before its row is put into the table.
-ghost use Rattle.std.specs.Prelude.{◌≡◌, [], Err, None, false};
-ghost use Rattle.flat_machine.specs.Decisions.{Stops};
-ghost use Rattle.flat_machine.specs.Imports.{decide_import, made};
+// Imports: what a command comes to.
+ghost use Rattle.std.specs.Prelude.{◌≡◌, false};
+ghost use Rattle.flat_machine.specs.Imports.{import_refusal, import_work};
 ghost use Rattle.flat_machine.specs.RequestSteps.{import_invalid};
-ghost use Rattle.flat_machine.specs.Standard.{triple_des};
-ghost use Rattle.pad_machine.specs.Decided.{row_decided};
+ghost use Rattle.flat_machine.specs.Settings.{triple_des};
 
-use crate::permits::permitted;
-use crate::refused::Refused;
-use key_attributes::{KeyRow, Use};
+use crate::refusals::{denied, refused};
+use check_values::check_value;
+use flat_machine::types::Work;
+use key_attributes::Use;
 use key_import::{ImportFault, decide_import};
 use key_table::KeyTable;
 use pad_steps::{ImportRequest, ImportSource, Refusal};
+use secure_entry::PartBuffer;
 
-/// The row that an import makes, or the first refusal that applies before the row is put into the table.
-pub fn imported_row(keys: &KeyTable, request: &ImportRequest) -> Result<KeyRow, Refused>
+/// What an import comes to.
+pub fn import_work(keys: &KeyTable, part: &PartBuffer, request: &ImportRequest) -> Work
     requires { import_invalid request.now ≡ false }
-    ensures { decide_import triple_des keys.now [] request.now ≡ row_decided keys.now result }
+    ensures { result ≡ import_work triple_des keys.now part.now request.now }
 {
     let kek = match &request.source {
         ImportSource::Clear(_) | ImportSource::Part => None,
-        ImportSource::Sealed(name, _) => match permitted(keys, name, Use::KeyEncKey) {
+        ImportSource::Sealed(name, _) => match keys.permit(name, Use::KeyEncKey) {
             Ok(key) => Some(key),
-            Err(refused) => return Err(refused),
+            Err(why) => return denied(why, name),
         },
     };
-    let row = match decide_import(request, keys.find(&request.name), kek, None) {
+    let target = keys.find(&request.name);
+    let part_value = part.value();
+    let row = match decide_import(request, target, kek, part_value.as_ref()) {
         Ok(row) => row,
-        Err(fault) => return Err(Refused::of_none(import_refusal(fault))),
+        Err(fault) => return refused(import_refusal(fault)),
     };
-    match keys.duplicate(&row) {
-        Some(name) => Err(Refused::of_none(Refusal::DuplicateKey(name))),
-        None => Ok(row),
+    if let Some(name) = keys.duplicate(&row) {
+        return refused(Refusal::DuplicateKey(name));
+    }
+    let Some(slot) = keys.slot_for(&row.name) else {
+        return refused(Refusal::TableFull);
+    };
+    Work::Keep {
+        slot,
+        check: check_value(&row.value, request.verify),
+        row,
+        from_part: matches!(request.source, ImportSource::Part),
     }
 }
 
 // The refusal of an import that makes no row.
 fn import_refusal(fault: ImportFault) -> Refusal
-    ensures { made (Err fault) ≡ Stops result None }
+    ensures { result ≡ import_refusal fault }
 {
     match fault {
         ImportFault::AccessDenied => Refusal::AccessDenied,

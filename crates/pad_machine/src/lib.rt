@@ -1,16 +1,17 @@
 //! The machine: what it keeps, and its step.
 #![tactic(auto)]
 
-mod blocks;
-mod book;
 mod crypts;
-mod digits;
-mod entry;
 mod imports;
+mod keyless;
 mod pad;
-mod permits;
-mod queue;
-mod refused;
+mod parts;
+mod pins;
+mod prepared;
+mod refusals;
+mod running_entry;
+mod saying;
+mod shared;
 mod submits;
 
 pub use pad::{Pad, Stepped};

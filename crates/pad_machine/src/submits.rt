@@ -1,9 +1,8 @@
 // Why a command is refused as it is submitted.
-ghost use Rattle.std.specs.Prelude.{◌≡◌, IfNone, IsTrue, Some, if◌then◌else◌};
+ghost use Rattle.std.specs.Prelude.{◌≡◌, IsTrue, Some, if◌then◌else◌};
 ghost use Rattle.flat_machine.specs.RequestSteps.{command_refusal, crypt_invalid, import_invalid, invalid_if, is_cfb};
-ghost use Rattle.flat_machine.specs.Standard.{standard_work, triple_des};
-ghost use Rattle.pad_machine.specs.Queue.{is_taken};
-ghost use Rattle.pad_steps.specs.Formed.{is_well_formed_command};
+ghost use Rattle.pad_machine.specs.Stands.{pad_rules};
+ghost use Rattle.pad_steps.specs.Today.{is_command_today};
 ghost use Rattle.pad_steps.specs.declared.answers.Refusal.TheVariants.{ModeNotSupported};
 
 use key_attributes::Uses;
@@ -12,9 +11,8 @@ use pad_words::Direction;
 
 /// Why a command is refused as it is submitted, for what it asks.
 pub fn command_refusal(command: &Command) -> Option<Refusal>
-    requires { IsTrue (is_well_formed_command command.now) }
-    ensures refusal { result ≡ command_refusal (standard_work triple_des) command.now }
-    ensures taken { IfNone result (IsTrue (is_taken command.now)) }
+    requires { IsTrue (is_command_today command.now) }
+    ensures { result ≡ command_refusal pad_rules command.now }
 {
     match command {
         Command::Crypt(request) => crypt_refusal(request),

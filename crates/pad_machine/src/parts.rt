@@ -1,0 +1,189 @@
+// What the pad holds: what is the same in twins, and the digits.
+ghost use Rattle.std.specs.Prelude.{◌≡◌, ◌<◌, ◌≤◌, ◌+◌, ◌-◌, ◌^◌, [], IsTrue, IfOk, IfSome, IsOk, OnErr, OnOk, None, Some, false, length};
+ghost use Rattle.std.specs.Option.{option_map};
+ghost use Rattle.entry_core.specs.Presses.{FitEntry};
+ghost use Rattle.flat_machine.specs.Kept.{FitRunning, kept_ends, kept_next, kept_press_in};
+ghost use Rattle.flat_machine.specs.Machine.{next_work};
+ghost use Rattle.flat_machine.specs.State.{ready_opening, running_entry};
+ghost use Rattle.key_source.specs.declared.Key.{Key};
+ghost use Rattle.pad_machine.specs.Does.{Becomes, Does};
+ghost use Rattle.pad_machine.specs.Memory.{places_for, takes_memory};
+ghost use Rattle.pad_machine.specs.Prepares.{IsPrepared, IsRunning, IsTakenToday, effect_of, places_of, pressed, said_of, with_key};
+ghost use Rattle.pad_machine.specs.Stands.{IsSound, StandsFor, kept_by, shared_of, running_of, set_by, zero_seed};
+ghost use Rattle.pad_steps.specs.declared.answers.Answer.TheVariants.{Entered};
+ghost use Rattle.pad_steps.specs.declared.answers.Reply.TheVariants.{Ok as ReplyOk};
+ghost use Rattle.pad_steps.specs.declared.commands.EntryKind.TheVariants.{Pin as PinKind};
+ghost use Rattle.pad_steps.specs.declared.steps.DiskWord.TheVariants.{Quiet};
+
+mod finishing;
+
+use crate::keyless::KeylessStep;
+use crate::prepared::Prepared;
+use crate::running_entry::RunningEntry;
+use crate::saying::say;
+use crate::shared::Shared;
+use entry_core::Seen;
+use key_source::Key;
+use pad_steps::{Answer, Completion, Event, Out, Outs, Reply, Shown, Step, Told};
+use pad_words::{Nibbles, NoMemory};
+use pin_buffer::PinBuffer;
+use std::alloc::Global;
+use std::marker::Model;
+
+/// What is the same in twins, the digits of the running entry, and the held PIN.
+#[derive(Drop)]
+pub struct Parts {
+    shared: Shared,
+    digits: Nibbles,
+    held: PinBuffer,
+}
+
+impl Model for Parts {
+    ghost use Rattle.pad_machine.specs.Stands.{Whole};
+
+    ghost Value = { Whole };
+
+    ghost view = { λ p. record { common = p.shared; digits = p.digits; held = p.held.digits } };
+}
+
+impl Parts {
+    pub fn new(alloc: Global) -> Result<Parts, NoMemory>
+        ensures { IfOk result (λ parts. StandsFor (kept_by parts) zero_seed ready_opening) }
+    {
+        Ok(Parts {
+            shared: Shared::new(alloc)?,
+            digits: Nibbles::empty(),
+            held: PinBuffer::empty(),
+        })
+    }
+
+    /// The step that is due.
+    pub fn next_work(&self) -> Option<Step>
+        requires { IsSound (shared_of self.now.common) }
+        ensures { result ≡ next_work (shared_of self.now.common) }
+    {
+        self.shared.next_work()
+    }
+
+    /// The running entry.
+    pub fn running_entry(&self) -> Option<RunningEntry>
+        requires { IsSound (shared_of self.now.common) }
+        ensures { option_map running_of result ≡ running_entry (shared_of self.now.common) }
+    {
+        self.shared.running_entry()
+    }
+
+    /// What a step comes to. All that may want memory is done here, and no digit is seen. All is as before, but for places.
+    pub fn prepare(&mut self, step: KeylessStep, out: &mut Outs) -> Result<Prepared, NoMemory>
+        requires sound { IsSound (shared_of self.old.common) }
+        requires taken { IsTakenToday step }
+        requires ids { length self.old.common.requests < 2 ^ 32 - 2 }
+        ensures kept { kept_by self.new ≡ kept_by self.old }
+        ensures items { out.new.items ≡ out.old.items }
+        ensures room { IfOk result (λ prepared. places_of self.new.common prepared ≤ out.new.spare) }
+        ensures fits { IfOk result (λ prepared. IsPrepared self.new.common (length self.new.held) prepared) }
+        ensures does { IfOk result (λ prepared. (key : Key) → effect_of (pressed (with_key step.entry key)) self.new prepared
+            ≡ kept_next (set_by zero_seed) (kept_by self.new) (with_key step.entry key) Quiet) }
+        ensures memory { (key : Key) → takes_memory (shared_of self.old.common) (with_key step.entry key) ≡ false →
+            places_for (shared_of self.old.common) (with_key step.entry key) ≤ out.old.spare → IsOk result }
+    {
+        let held = self.held.digits().len();
+        self.shared.prepare(step, held, out)
+    }
+
+    /// Does what was prepared, with the key of a press. It takes no memory.
+    pub fn perform(&mut self, prepared: Prepared, key: Option<Key>, out: &mut Outs)
+        requires room { places_of self.old.common prepared ≤ out.old.spare }
+        requires fits { IsPrepared self.old.common (length self.old.held) prepared }
+        requires digits { FitRunning (kept_by self.old) }
+        ensures { Becomes self.new out.old out.new (effect_of key self.old prepared) }
+    {
+        match (prepared, key) {
+            (Prepared::Press(current), Some(key)) => self.press(current, key, out),
+            (prepared, _) => self.perform_keyless(prepared, out),
+        }
+    }
+
+    // Does what was prepared, where it is no press.
+    fn perform_keyless(&mut self, prepared: Prepared, out: &mut Outs)
+        requires room { places_of self.old.common prepared ≤ out.old.spare }
+        requires fits { IsPrepared self.old.common (length self.old.held) prepared }
+        ensures { Does self.old self.new out.old out.new (said_of prepared) }
+    {
+        match prepared {
+            Prepared::Nothing | Prepared::Press(_) => {}
+            Prepared::Say(item) => say(out, item),
+            Prepared::Open(session) => {
+                self.shared.open(session);
+                say(out, Out::Told(session, Told::Opened));
+            }
+            Prepared::Submit(session, limit, command) => {
+                let id = self.shared.submit(session, limit, command);
+                say(out, Out::Request(session, id));
+            }
+            Prepared::Listen(session, classes) => {
+                self.shared.listen(session, classes);
+                say(out, Out::Told(session, Told::Listening(classes)));
+            }
+            Prepared::Begin(id) => {
+                self.shared.begin(id);
+                self.digits.clear();
+            }
+            Prepared::RefuseEntry(owner, refusal) => {
+                let told = Reply::No(refusal.copy());
+                self.shared.refuse_next(owner.id, refusal);
+                self.digits.clear();
+                say(out, Out::Ended(owner.session, owner.id, told));
+            }
+            Prepared::StartEntry(owner, kind) => self.start_entry(owner, kind, out),
+            Prepared::Finish(owner, work, told) => self.finish(owner, work, told, out),
+        }
+    }
+
+    // A press at the running entry.
+    fn press(&mut self, current: RunningEntry, key: Key, out: &mut Outs)
+        requires room { 2 ≤ out.old.spare }
+        requires runs { IsRunning self.old.common current }
+        requires digits { FitEntry current.entry self.old.digits }
+        ensures { Becomes self.new out.old out.new (kept_press_in (set_by zero_seed) (kept_by self.old) (Some (running_of current)) key) }
+    {
+        let seen = current.entry.seen(self.digits.items().len(), key);
+        current.entry.enter(&mut self.digits, key);
+        match seen {
+            Seen::Ignored => {}
+            Seen::Took(shown) => self
+                .shared
+                .send(current.owner.session, Event::Key(shown), out),
+            Seen::Ended(shown, completion) => self.end_entry(current, shown, completion, out),
+        }
+    }
+
+    // The running entry ends by a key: its digits are held, and its reply has their number.
+    fn end_entry(
+        &mut self,
+        current: RunningEntry,
+        shown: Shown,
+        completion: Completion,
+        out: &mut Outs,
+    )
+        requires room { 2 ≤ out.old.spare }
+        requires runs { IsRunning self.old.common current }
+        requires digits { FitEntry current.entry self.old.digits }
+        ensures { Becomes self.new out.old out.new (kept_ends (set_by zero_seed) (kept_by self.old) (running_of current) shown completion self.old.digits) }
+    {
+        self.shared
+            .send(current.owner.session, Event::Key(shown), out);
+        let count = self.digits.items().len() as u8;
+        self.held.set(&self.digits);
+        self.digits.clear();
+        let (reply, told) = (entered(count, completion), entered(count, completion));
+        self.shared.end(current.owner, reply, told, out);
+    }
+}
+
+// The reply of a PIN entry: how many digits were entered, and how it ended.
+fn entered(count: u8, completion: Completion) -> Reply
+    ensures { result ≡ ReplyOk (Entered count completion) }
+{
+    Reply::Ok(Answer::Entered(count, completion))
+}
