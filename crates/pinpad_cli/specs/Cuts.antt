@@ -1,7 +1,7 @@
 -- Where a script is cut.
 use Rattle.std.specs.Global.{Vec}
 use Rattle.std.specs.Prelude.{IsTrue, List, None, Option, Some, [], if◌then◌else◌, suc, ℕ, ◌==◌, ◌∷◌}
-use Rattle.script_lang.specs.Spelling.{is_built}
+use Rattle.script_lang.specs.Spelling.{is_spelled}
 use Rattle.script_lang.specs.declared.kinds.Line.{Line}
 
 -- how many bytes stand before the first line feed
@@ -15,5 +15,5 @@ items_of None = None
 items_of (Some lines) = Some lines.items
 
 -- a line that the grammar has
-abbrev pub IsBuilt : Line → Type 0
-IsBuilt line = IsTrue (is_built line)
+abbrev pub IsSpelled : Line → Type 0
+IsSpelled line = IsTrue (is_spelled line)

@@ -1,8 +1,8 @@
 -- The steps of a script, and the text of a run.
 use Rattle.std.specs.Prelude.{Bool, List, None, Option, Some, [], false, is_none, length, true, ℕ, ◌++◌, ◌∷◌}
 use Rattle.flat_machine.specs.Machine.{Act, lines_from, next, next_work}
-use Rattle.flat_machine.specs.Standard.{standard_setting}
-use Rattle.flat_machine.specs.State.{Flat, Public, ready_opening}
+use Rattle.pad_machine.specs.Stands.{set_by}
+use Rattle.flat_machine.specs.State.{Flat, Shared, ready_opening}
 use Rattle.pad_steps.specs.declared.steps.DiskWord.{DiskWord}
 use Rattle.pad_steps.specs.declared.steps.Step.{Step}
 use Rattle.pinpad_cli.specs.Script.{lines_of}
@@ -24,9 +24,9 @@ abbrev pub with_acts : List Act → Played → Played
 with_acts acts played = record { acts = acts ++ played.acts; whole = played.whole }
 
 -- no step of the line is left where one of them was taken: none is due after `auto`
-abbrev pub is_over : Line → Public → Bool
-is_over line.Auto public = is_none (next_work public)
-is_over (line.Do step) public = true
+abbrev pub is_over : Line → Shared → Bool
+is_over line.Auto shared = is_none (next_work shared)
+is_over (line.Do step) shared = true
 
 -- what is played from a state, given the words that the disk will say
 abbrev pub Player : Type 0
@@ -47,18 +47,18 @@ abbrev pub due_first : Option Step → Played → (Step → Played) → Played
 due_first None rest more = rest
 due_first (Some step) rest more = more step
 
--- the run of this pad: its cipher and its PIN work are the standard ones, and its fill words are open
-module _ (fill : ℕ → ℕ) where
+-- the run of this pad: its cipher and its PIN work are the standard ones, and its seed words are open
+module _ (seed : List ℕ) where
   -- a step, which takes the next word, and then the rest
   abbrev pub step_then : Step → Player → Player
   step_then step rest state [] = stopped
-  step_then step rest state (word ∷ words) = with_acts (record { step = step; word = word } ∷ []) (rest (next (standard_setting fill) state step word).state words)
+  step_then step rest state (word ∷ words) = with_acts (record { step = step; word = word } ∷ []) (rest (next (set_by seed) state step word).state words)
 
   -- the steps that are due, each of which takes a word, until none is, and then the rest
   abbrev pub auto_then : Player → Player
-  auto_then rest state [] = unless_due (next_work state.public) (rest state [])
-  auto_then rest state (word ∷ words) = due_first (next_work state.public) (rest state (word ∷ words))
-      (λ step. with_acts (record { step = step; word = word } ∷ []) (auto_then rest (next (standard_setting fill) state step word).state words))
+  auto_then rest state [] = unless_due (next_work state.shared) (rest state [])
+  auto_then rest state (word ∷ words) = due_first (next_work state.shared) (rest state (word ∷ words))
+      (λ step. with_acts (record { step = step; word = word } ∷ []) (auto_then rest (next (set_by seed) state step word).state words))
 
   -- a line, and then the rest
   abbrev pub line_then : Line → Player → Player
@@ -89,7 +89,7 @@ module _ (fill : ℕ → ℕ) where
 
   -- the printed text of a run from a state
   abbrev pub text_from : Flat → List Act → List ℕ
-  text_from state acts = lines_text (lines_from (standard_setting fill) state acts)
+  text_from state acts = lines_text (lines_from (set_by seed) state acts)
 
   -- the printed text of a run from the opening state
   abbrev pub text_of : List Act → List ℕ

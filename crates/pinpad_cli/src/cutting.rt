@@ -1,7 +1,7 @@
 // A script cut into lines.
 ghost use Rattle.std.specs.Prelude.{◌≡◌, ◌<◌, ◌≤◌, ◌++◌, ◌∷◌, [], All, IfNone, IfOk, IfSome, IsTrue, List, None, OnOk, Some, drop, flat_map, length, ℕ};
 ghost use Rattle.std.specs.List.{list_all};
-ghost use Rattle.pinpad_cli.specs.Cuts.{feed_at, items_of, IsBuilt};
+ghost use Rattle.pinpad_cli.specs.Cuts.{feed_at, items_of, IsSpelled};
 ghost use Rattle.pinpad_cli.specs.Script.{is_feedless, lines_of, lines_of_pieces, pieces_of, with_feed, with_line};
 
 use crate::reading::LONGEST_SCRIPT;
@@ -13,7 +13,7 @@ use std::alloc::Global;
 #[tactic(auto, unfolding(crate::specs::Script::lines_of))]
 pub fn script_lines(alloc: Global, script: &[u8]) -> Result<Option<Vec<Line>>, NoMemory>
     ensures exact { IfOk result (λ found. items_of found ≡ lines_of script.now) }
-    ensures built { IfOk result (λ found. IfSome found (λ lines. All IsBuilt lines.items)) }
+    ensures spelled { IfOk result (λ found. IfSome found (λ lines. All IsSpelled lines.items)) }
     ensures few { IfOk result (λ found. IfSome found (λ lines. length lines.items ≤ 1048576)) }
 {
     if script.len() > LONGEST_SCRIPT {
@@ -31,7 +31,7 @@ pub fn pieces_end_with_feeds()
 // The lines of a text of any length.
 fn cut(alloc: Global, script: &[u8]) -> Result<Option<Vec<Line>>, NoMemory>
     ensures exact { IfOk result (λ found. items_of found ≡ lines_of_pieces (pieces_of script.now)) }
-    ensures built { IfOk result (λ found. IfSome found (λ lines. All IsBuilt lines.items)) }
+    ensures spelled { IfOk result (λ found. IfSome found (λ lines. All IsSpelled lines.items)) }
     ensures few { IfOk result (λ found. IfSome found (λ lines. length lines.items ≤ length script.now)) }
 {
     let mut lines = Vec::new(alloc);
@@ -54,7 +54,7 @@ fn first_line(alloc: Global, rest: &[u8]) -> Result<Option<(Line, usize)>, NoMem
     ensures found { IfOk result (λ found. IfSome found (λ first. lines_of_pieces (pieces_of rest.now) ≡ with_line (Some first.0) (lines_of_pieces (pieces_of (drop first.1 rest.now))))) }
     ensures some { IfOk result (λ found. IfSome found (λ first. 0 < first.1)) }
     ensures within { IfOk result (λ found. IfSome found (λ first. first.1 ≤ length rest.now)) }
-    ensures built { IfOk result (λ found. IfSome found (λ first. IsBuilt first.0)) }
+    ensures spelled { IfOk result (λ found. IfSome found (λ first. IsSpelled first.0)) }
     ensures outside { IfOk result (λ found. IfNone found (lines_of_pieces (pieces_of rest.now) ≡ None)) }
 {
     let end = feed_place(rest);

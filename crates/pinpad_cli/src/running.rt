@@ -1,12 +1,13 @@
 // A script run line by line, and printed.
-ghost use Rattle.std.specs.Prelude.{◌≡◌, ◌<◌, ◌≤◌, ◌+◌, ◌-◌, ◌^◌, All, IfErr, IfNone, IsTrue, OnErr, OnOk, OnSome, Some, [], false, length, take, true, ℕ};
+ghost use Rattle.std.specs.Prelude.{List, ◌≡◌, ◌<◌, ◌≤◌, ◌+◌, ◌-◌, ◌^◌, All, IfErr, IfNone, IsTrue, OnErr, OnOk, OnSome, Some, [], false, length, take, true, ℕ};
 ghost use Rattle.disk_core.specs.Causes.{Rose};
 ghost use Rattle.disk_core.specs.CountedSinks.{counted_given, counted_faults};
 ghost use Rattle.flat_machine.specs.Machine.{next_work};
 ghost use Rattle.flat_machine.specs.State.{Flat, is_off};
-ghost use Rattle.pad_machine.specs.Stands.{StandsFor, draws, work_left};
-ghost use Rattle.pad_steps.specs.Formed.{is_well_formed};
-ghost use Rattle.pinpad_cli.specs.Cuts.{IsBuilt};
+ghost use Rattle.flat_machine.specs.RequestFacts.{draws, work_left};
+ghost use Rattle.pad_machine.specs.Stands.{StandsFor};
+ghost use Rattle.pad_steps.specs.Today.{is_taken_today};
+ghost use Rattle.pinpad_cli.specs.Cuts.{IsSpelled};
 ghost use Rattle.pinpad_cli.specs.Parts.{BrokeOff, PlaysFront, Ran, Took};
 ghost use Rattle.pinpad_cli.specs.Runs.{Player, auto_then, is_over, line_then, play, step_then};
 
@@ -41,20 +42,20 @@ pub fn run_step<K: Sink>(
     words: &mut Vec<DiskWord>,
     sink: &mut Counted<K>,
 ) -> Result<(), Break>
-    requires formed { IsTrue (is_well_formed step.now) }
-    requires ids { length pad.old.public.requests < 2 ^ 32 - 2 }
-    ensures ran { OnOk result ((fill : ℕ → ℕ) (state : Flat) (rest : Player) → StandsFor pad.old state →
-        Ran fill state (step_then fill step.now rest) rest pad.new words.old.items words.new.items (counted_given K.given sink.old) (counted_given K.given sink.new)) }
-    ensures broke { OnErr result ((fill : ℕ → ℕ) (state : Flat) (rest : Player) → StandsFor pad.old state →
-        BrokeOff fill state (step_then fill step.now rest) words.old.items words.new.items (counted_given K.given sink.old) (counted_given K.given sink.new)) }
+    requires formed { IsTrue (is_taken_today step.now) }
+    requires ids { length pad.old.shared.requests < 2 ^ 32 - 2 }
+    ensures ran { OnOk result ((seed : List ℕ) (state : Flat) (rest : Player) → StandsFor pad.old seed state →
+        Ran seed state (step_then seed step.now rest) rest pad.new words.old.items words.new.items (counted_given K.given sink.old) (counted_given K.given sink.new)) }
+    ensures broke { OnErr result ((seed : List ℕ) (state : Flat) (rest : Player) → StandsFor pad.old seed state →
+        BrokeOff seed state (step_then seed step.now rest) words.old.items words.new.items (counted_given K.given sink.old) (counted_given K.given sink.new)) }
     ensures later { counted_faults K.faults sink.old ≤ counted_faults K.faults sink.new }
     ensures cause { IfErr result (λ stop. stop.fault ≡ Fault.Failed → Rose (counted_faults K.faults sink.old) (counted_faults K.faults sink.new)) }
-    ensures taken { IfErr result (λ stop. stop.taken ≡ true → (fill : ℕ → ℕ) (state : Flat) (rest : Player) → StandsFor pad.old state →
-        Took fill state (step_then fill step.now rest) rest pad.new words.old.items words.new.items) }
-    ensures less { OnOk result (is_off pad.old.public.device ≡ false → next_work pad.old.public ≡ Some step.now → work_left pad.new.public.requests < work_left pad.old.public.requests) }
-    ensures ids { OnOk result (length pad.new.public.requests ≤ length pad.old.public.requests + draws step.now) }
+    ensures taken { IfErr result (λ stop. stop.taken ≡ true → (seed : List ℕ) (state : Flat) (rest : Player) → StandsFor pad.old seed state →
+        Took seed state (step_then seed step.now rest) rest pad.new words.old.items words.new.items) }
+    ensures less { OnOk result (is_off pad.old.shared.device ≡ false → next_work pad.old.shared ≡ Some step.now → work_left pad.new.shared.requests < work_left pad.old.shared.requests) }
+    ensures ids { OnOk result (length pad.new.shared.requests ≤ length pad.old.shared.requests + draws step.now) }
 {
-    let masked = pad.masked(step);
+    let is_masked = pad.is_masked(step);
     let Ok(mut outs) = Outs::new(alloc) else {
         return Err(not_taken());
     };
@@ -64,7 +65,7 @@ pub fn run_step<K: Sink>(
     let Ok(stepped) = pad.step(step, &mut outs) else {
         return Err(not_taken());
     };
-    let printed = print_step(alloc, step, masked, &stepped.word, None, &outs, sink);
+    let printed = print_step(alloc, step, is_masked, &stepped.word, None, &outs, sink);
     words.push_reserved(stepped.word);
     match printed {
         Ok(()) => Ok(()),
@@ -97,16 +98,16 @@ pub fn run_auto<K: Sink>(
     words: &mut Vec<DiskWord>,
     sink: &mut Counted<K>,
 ) -> Result<(), Break>
-    requires ids { length pad.old.public.requests < 2 ^ 32 - 2 }
-    ensures ran { OnOk result ((fill : ℕ → ℕ) (state : Flat) (rest : Player) → StandsFor pad.old state →
-        Ran fill state (auto_then fill rest) rest pad.new words.old.items words.new.items (counted_given K.given sink.old) (counted_given K.given sink.new)) }
-    ensures broke { OnErr result ((fill : ℕ → ℕ) (state : Flat) (rest : Player) → StandsFor pad.old state →
-        BrokeOff fill state (auto_then fill rest) words.old.items words.new.items (counted_given K.given sink.old) (counted_given K.given sink.new)) }
+    requires ids { length pad.old.shared.requests < 2 ^ 32 - 2 }
+    ensures ran { OnOk result ((seed : List ℕ) (state : Flat) (rest : Player) → StandsFor pad.old seed state →
+        Ran seed state (auto_then seed rest) rest pad.new words.old.items words.new.items (counted_given K.given sink.old) (counted_given K.given sink.new)) }
+    ensures broke { OnErr result ((seed : List ℕ) (state : Flat) (rest : Player) → StandsFor pad.old seed state →
+        BrokeOff seed state (auto_then seed rest) words.old.items words.new.items (counted_given K.given sink.old) (counted_given K.given sink.new)) }
     ensures later { counted_faults K.faults sink.old ≤ counted_faults K.faults sink.new }
     ensures cause { IfErr result (λ stop. stop.fault ≡ Fault.Failed → Rose (counted_faults K.faults sink.old) (counted_faults K.faults sink.new)) }
-    ensures taken { IfErr result (λ stop. stop.taken ≡ true → (fill : ℕ → ℕ) (state : Flat) (rest : Player) → StandsFor pad.old state →
-        Took fill state (auto_then fill rest) (auto_then fill rest) pad.new words.old.items words.new.items) }
-    ensures ids { OnOk result (length pad.new.public.requests ≤ length pad.old.public.requests) }
+    ensures taken { IfErr result (λ stop. stop.taken ≡ true → (seed : List ℕ) (state : Flat) (rest : Player) → StandsFor pad.old seed state →
+        Took seed state (auto_then seed rest) (auto_then seed rest) pad.new words.old.items words.new.items) }
+    ensures ids { OnOk result (length pad.new.shared.requests ≤ length pad.old.shared.requests) }
 {
     while let Some(step) = pad.next_work() {
         match run_step(alloc, pad, &step, words, sink) {
@@ -125,17 +126,17 @@ pub fn run_line<K: Sink>(
     words: &mut Vec<DiskWord>,
     sink: &mut Counted<K>,
 ) -> Result<(), Break>
-    requires built { IsBuilt line.now }
-    requires ids { length pad.old.public.requests < 2 ^ 32 - 2 }
-    ensures ran { OnOk result ((fill : ℕ → ℕ) (state : Flat) (rest : Player) → StandsFor pad.old state →
-        Ran fill state (line_then fill line.now rest) rest pad.new words.old.items words.new.items (counted_given K.given sink.old) (counted_given K.given sink.new)) }
-    ensures broke { OnErr result ((fill : ℕ → ℕ) (state : Flat) (rest : Player) → StandsFor pad.old state →
-        BrokeOff fill state (line_then fill line.now rest) words.old.items words.new.items (counted_given K.given sink.old) (counted_given K.given sink.new)) }
+    requires spelled { IsSpelled line.now }
+    requires ids { length pad.old.shared.requests < 2 ^ 32 - 2 }
+    ensures ran { OnOk result ((seed : List ℕ) (state : Flat) (rest : Player) → StandsFor pad.old seed state →
+        Ran seed state (line_then seed line.now rest) rest pad.new words.old.items words.new.items (counted_given K.given sink.old) (counted_given K.given sink.new)) }
+    ensures broke { OnErr result ((seed : List ℕ) (state : Flat) (rest : Player) → StandsFor pad.old seed state →
+        BrokeOff seed state (line_then seed line.now rest) words.old.items words.new.items (counted_given K.given sink.old) (counted_given K.given sink.new)) }
     ensures later { counted_faults K.faults sink.old ≤ counted_faults K.faults sink.new }
     ensures cause { IfErr result (λ stop. stop.fault ≡ Fault.Failed → Rose (counted_faults K.faults sink.old) (counted_faults K.faults sink.new)) }
-    ensures taken { IfErr result (λ stop. stop.taken ≡ true → is_over line.now pad.new.public ≡ true → (fill : ℕ → ℕ) (state : Flat) (rest : Player) → StandsFor pad.old state →
-        Took fill state (line_then fill line.now rest) rest pad.new words.old.items words.new.items) }
-    ensures ids { OnOk result (length pad.new.public.requests ≤ length pad.old.public.requests + 1) }
+    ensures taken { IfErr result (λ stop. stop.taken ≡ true → is_over line.now pad.new.shared ≡ true → (seed : List ℕ) (state : Flat) (rest : Player) → StandsFor pad.old seed state →
+        Took seed state (line_then seed line.now rest) rest pad.new words.old.items words.new.items) }
+    ensures ids { OnOk result (length pad.new.shared.requests ≤ length pad.old.shared.requests + 1) }
 {
     match line {
         Line::Auto => run_auto(alloc, pad, words, sink),
@@ -158,15 +159,15 @@ pub fn run_lines<K: Sink>(
     words: &mut Vec<DiskWord>,
     sink: &mut Counted<K>,
 ) -> Course
-    requires built { All IsBuilt lines.now }
-    requires fresh { pad.old.public.requests ≡ [] }
+    requires spelled { All IsSpelled lines.now }
+    requires fresh { pad.old.shared.requests ≡ [] }
     requires few { length lines.now ≤ 1048576 }
-    ensures ran { IfNone result.fault ((fill : ℕ → ℕ) (state : Flat) → StandsFor pad.old state →
-        Ran fill state (play fill lines.now) (play fill []) pad.new words.old.items words.new.items (counted_given K.given sink.old) (counted_given K.given sink.new)) }
-    ensures broke { OnSome result.fault ((fill : ℕ → ℕ) (state : Flat) → StandsFor pad.old state →
-        BrokeOff fill state (play fill lines.now) words.old.items words.new.items (counted_given K.given sink.old) (counted_given K.given sink.new)) }
+    ensures ran { IfNone result.fault ((seed : List ℕ) (state : Flat) → StandsFor pad.old seed state →
+        Ran seed state (play seed lines.now) (play seed []) pad.new words.old.items words.new.items (counted_given K.given sink.old) (counted_given K.given sink.new)) }
+    ensures broke { OnSome result.fault ((seed : List ℕ) (state : Flat) → StandsFor pad.old seed state →
+        BrokeOff seed state (play seed lines.now) words.old.items words.new.items (counted_given K.given sink.old) (counted_given K.given sink.new)) }
     ensures lines { result.lines ≤ length lines.now }
-    ensures front { (fill : ℕ → ℕ) (state : Flat) → StandsFor pad.old state → PlaysFront fill state (take result.lines lines.now) words.old.items words.new.items }
+    ensures front { (seed : List ℕ) (state : Flat) → StandsFor pad.old seed state → PlaysFront seed state (take result.lines lines.now) words.old.items words.new.items }
     ensures all { IfNone result.fault (result.lines ≡ length lines.now) }
     ensures later { counted_faults K.faults sink.old ≤ counted_faults K.faults sink.new }
     ensures cause { result.fault ≡ Some Fault.Failed → Rose (counted_faults K.faults sink.old) (counted_faults K.faults sink.new) }
@@ -194,7 +195,7 @@ pub fn run_lines<K: Sink>(
 
 // Whether all steps of the line that was begun are taken.
 fn is_run(pad: &Pad, line: &Line) -> bool
-    ensures { result ≡ is_over line.now pad.now.public }
+    ensures { result ≡ is_over line.now pad.now.shared }
 {
     match line {
         Line::Auto => pad.next_work().is_none(),

@@ -6,7 +6,7 @@ ghost use Rattle.disk_core.specs.Streams.{with_more, GivesFront};
 ghost use Rattle.flat_machine.specs.Machine.{Act};
 ghost use Rattle.flat_machine.specs.State.{ready_opening};
 ghost use Rattle.flat_machine.specs.Twins.{Twins};
-ghost use Rattle.flat_machine.specs.Standard.{standard_setting};
+ghost use Rattle.pad_machine.specs.Stands.{set_by, zero_seed};
 ghost use Rattle.pinpad_cli.specs.CommandLine.{is_replay as is_replay_form};
 ghost use Rattle.pinpad_cli.specs.Parts.{PlaysFront};
 ghost use Rattle.pinpad_cli.specs.Runs.{has_word_per_step, line_count, steps_of, text_of};
@@ -51,20 +51,20 @@ pub fn run_pinpad<S: Source, K: Sink>(
 
     // All was run: the source was read to its end, there is a word for each step, and the text of the steps was given.
     ensures read_to_end { result.status ≡ 0 → OnSome (S.left source.old) (S.left source.new ≡ Some []) }
-    ensures whole { result.status ≡ 0 → IfSome (S.left source.old) (λ script. (fill : ℕ → ℕ) → has_word_per_step fill script result.words ≡ true) }
+    ensures whole { result.status ≡ 0 → IfSome (S.left source.old) (λ script. has_word_per_step zero_seed script result.words ≡ true) }
     ensures lines { result.status ≡ 0 → IfSome (S.left source.old) (λ script. result.line ≡ line_count (lines_of script)) }
-    ensures printed { result.status ≡ 0 → IfSome (S.left source.old) (λ script. (fill : ℕ → ℕ) →
-        counted_given K.given sink.new ≡ with_more (counted_given K.given sink.old) (text_of fill (steps_of fill script result.words))) }
+    ensures printed { result.status ≡ 0 → IfSome (S.left source.old) (λ script.
+        counted_given K.given sink.new ≡ with_more (counted_given K.given sink.old) (text_of zero_seed (steps_of zero_seed script result.words))) }
 
     // The same bytes are the text of every twin of the steps.
-    ensures twins { result.status ≡ 0 → IfSome (S.left source.old) (λ script. (fill : ℕ → ℕ) (twin : List Act) → Twins (standard_setting fill) ready_opening (steps_of fill script result.words) twin →
-        counted_given K.given sink.new ≡ with_more (counted_given K.given sink.old) (text_of fill twin)) }
+    ensures twins { result.status ≡ 0 → IfSome (S.left source.old) (λ script. (twin : List Act) → Twins (set_by zero_seed) ready_opening (steps_of zero_seed script result.words) twin →
+        counted_given K.given sink.new ≡ with_more (counted_given K.given sink.old) (text_of zero_seed twin)) }
 
     // In every status a front of that text was given.
-    ensures front { IfSome (S.left source.old) (λ script. (fill : ℕ → ℕ) →
-        GivesFront (counted_given K.given sink.old) (counted_given K.given sink.new) (text_of fill (steps_of fill script result.words))) }
-    ensures twin_front { IfSome (S.left source.old) (λ script. (fill : ℕ → ℕ) (twin : List Act) → Twins (standard_setting fill) ready_opening (steps_of fill script result.words) twin →
-        GivesFront (counted_given K.given sink.old) (counted_given K.given sink.new) (text_of fill twin)) }
+    ensures front { IfSome (S.left source.old) (λ script.
+        GivesFront (counted_given K.given sink.old) (counted_given K.given sink.new) (text_of zero_seed (steps_of zero_seed script result.words))) }
+    ensures twin_front { IfSome (S.left source.old) (λ script. (twin : List Act) → Twins (set_by zero_seed) ready_opening (steps_of zero_seed script result.words) twin →
+        GivesFront (counted_given K.given sink.old) (counted_given K.given sink.new) (text_of zero_seed twin)) }
 
     // A script outside the grammar: nothing is given, and no other status comes but by a fault of the source or want of memory.
     ensures outside { result.status ≡ 1 → IfSome (S.left source.old) (λ script. lines_of script ≡ None) }
@@ -73,7 +73,7 @@ pub fn run_pinpad<S: Source, K: Sink>(
     ensures inside { (result.status ≡ 0) ⊎ (result.status ≡ 4) → IfSome (S.left source.old) (λ script. IsSome (lines_of script)) }
 
     // The lines that are counted are run whole: a front of the words is one for each of their steps.
-    ensures line_front { IfSome (S.left source.old) (λ script. (fill : ℕ → ℕ) → IfSome (lines_of script) (λ lines. PlaysFront fill ready_opening (take result.line lines) [] result.words)) }
+    ensures line_front { IfSome (S.left source.old) (λ script. IfSome (lines_of script) (λ lines. PlaysFront zero_seed ready_opening (take result.line lines) [] result.words)) }
     ensures line_within { IfSome (S.left source.old) (λ script. result.line ≤ line_count (lines_of script)) }
 
     // Each fault has its cause, and where the source failed nothing was run.
@@ -101,12 +101,12 @@ fn run_script<K: Sink>(alloc: Global, script: &[u8], sink: &mut Counted<K>) -> E
     ensures inside { (result.status ≡ 0) ⊎ (result.status ≡ 4) → IsSome (lines_of script.now) }
     ensures outside_gives_nothing { result.status ≡ 1 → sink.new ≡ sink.old }
     ensures outside_line { result.status ≡ 1 → result.line ≡ 0 }
-    ensures whole { result.status ≡ 0 → (fill : ℕ → ℕ) → has_word_per_step fill script.now result.words ≡ true }
+    ensures whole { result.status ≡ 0 → has_word_per_step zero_seed script.now result.words ≡ true }
     ensures lines { result.status ≡ 0 → result.line ≡ line_count (lines_of script.now) }
     ensures line_within { result.line ≤ line_count (lines_of script.now) }
-    ensures line_front { (fill : ℕ → ℕ) → IfSome (lines_of script.now) (λ lines. PlaysFront fill ready_opening (take result.line lines) [] result.words) }
-    ensures printed { result.status ≡ 0 → (fill : ℕ → ℕ) → counted_given K.given sink.new ≡ with_more (counted_given K.given sink.old) (text_of fill (steps_of fill script.now result.words)) }
-    ensures front { (fill : ℕ → ℕ) → GivesFront (counted_given K.given sink.old) (counted_given K.given sink.new) (text_of fill (steps_of fill script.now result.words)) }
+    ensures line_front { IfSome (lines_of script.now) (λ lines. PlaysFront zero_seed ready_opening (take result.line lines) [] result.words) }
+    ensures printed { result.status ≡ 0 → counted_given K.given sink.new ≡ with_more (counted_given K.given sink.old) (text_of zero_seed (steps_of zero_seed script.now result.words)) }
+    ensures front { GivesFront (counted_given K.given sink.old) (counted_given K.given sink.new) (text_of zero_seed (steps_of zero_seed script.now result.words)) }
     ensures cause { result.status ≡ 4 → Rose (counted_faults K.faults sink.old) (counted_faults K.faults sink.new) }
 {
     let Ok(found) = script_lines(alloc, script) else {

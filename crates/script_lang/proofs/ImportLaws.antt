@@ -1,20 +1,20 @@
 -- The laws of an import of a key.
 use Rattle.std.proofs.Common.{◌≡◌, ℕ, List, [], ◌∷◌, ◌++◌, Some, refl, sym, subst, ◌∙◌}
-use Rattle.std.specs.Prelude.{codes}
-use Rattle.std.specs.List.{AllByRecursion}
-use Rattle.script_lang.specs.Words.{FirstWord, Says}
-use Rattle.script_lang.specs.Reading.{one_of, read_bytes, read_import, read_name, read_sourced, source_rows, with_field}
-use Rattle.script_lang.specs.Spelling.{bytes_word, import_words, name_word, source_words, sourced_words, uses_word, verify_word}
+use Rattle.script_lang.specs.Words.{FirstWord, Says, Word}
+use Rattle.script_lang.specs.Reading.{read_bytes, read_import, read_name, read_source_kind, read_sourced, source_after, with_field}
+use Rattle.script_lang.specs.Spelling.{bytes_word, import_words, name_word, source_kind_word, source_words, sourced_words, uses_word, verify_word}
 use Rattle.pad_steps.specs.declared.commands.ImportRequest.{ImportRequest}
 use Rattle.pad_steps.specs.declared.commands.ImportSource.{ImportSource}
 use Rattle.pad_steps.specs.declared.commands.ImportSource.TheVariants as origin
+use Rattle.script_lang.specs.declared.kinds.SourceKind.{SourceKind}
+use Rattle.script_lang.specs.declared.kinds.SourceKind.TheVariants as source_kind
 use Rattle.script_lang.proofs.ByteLaws.{bytes_field}
 use Rattle.script_lang.proofs.Fits.{BytesFit, ImportFits, NameFits, SourceFits, UsesFit}
 use Rattle.script_lang.proofs.HexLaws.{uses_field}
 use Rattle.script_lang.proofs.NameLaws.{name_field}
 use Rattle.script_lang.proofs.Readers.{Always, Ended, Reads, Then, ended_reads, with_field_reads}
-use Rattle.script_lang.proofs.RowLaws.{After, RowTakes, Spelled, one_of_again, one_of_takes, says_end}
-use Rattle.script_lang.proofs.WordLaws.{verify_field}
+use Rattle.script_lang.proofs.RowLaws.{After, RowTakes, Spelled, row_at, row_never, rows_take, says_end}
+use Rattle.script_lang.proofs.WordLaws.{source_kind_field, verify_field}
 
 -- ---- the uses and the check mode behind a source
 
@@ -48,43 +48,39 @@ sealed_reads : (name : List ℕ) → Reads (with_field read_name (λ key. with_f
 sealed_reads name = with_field_reads _ _ _ _ _ name_field (λ key. with_field_reads _ _ _ _ _ (bytes_field 1 64) (λ value. sourced_reads name (origin.Sealed key value)))
 
 -- the words behind a source that is known
-after_source : (verb bytes : List ℕ) (r : ImportRequest) (s : ImportSource) → r.source ≡ s → After verb bytes (source_words s ++ uses_word r.uses ∷ verify_word r.verify ∷ []) → After verb bytes (sourced_words r)
-after_source verb bytes r s is after = subst (λ s. After verb bytes (source_words s ++ uses_word r.uses ∷ verify_word r.verify ∷ [])) (sym is) after
+after_source : (first : Word) (bytes : List ℕ) (r : ImportRequest) (s : ImportSource) → r.source ≡ s → After first bytes (source_words s ++ uses_word r.uses ∷ verify_word r.verify ∷ []) → After first bytes (sourced_words r)
+after_source first bytes r s is after = subst (λ s. After first bytes (source_words s ++ uses_word r.uses ∷ verify_word r.verify ∷ [])) (sym is) after
 
-source_rows_take : (name : List ℕ) → AllByRecursion (RowTakes (NamedFits name) sourced_words) (source_rows name)
-source_rows_take name = (
-  λ bytes r e.
-      let s = (clear_reads name).takes bytes r e in
-      let t = sourced_says name (origin.Clear s.0) r s.2 s.1 s.4 in
-      (t.0, after_source (codes "clear") bytes r (origin.Clear s.0) t.1 (refl, (s.2, s.3, t.2))),
-  (
-    λ bytes r e.
-        let k = (sealed_reads name).takes bytes r e in
-        let s = k.4 in
-        let source : ImportSource = origin.Sealed k.0 s.0 in
-        let t = sourced_says name source r s.2 (k.1, s.1) s.4 in
-        (t.0, after_source (codes "sealed") bytes r source t.1 (refl, (k.2, k.3, (s.2, s.3, t.2)))),
-    tt,
-  ),
-)
+rows_take_sources : (name : List ℕ) (kind : SourceKind) → RowTakes (NamedFits name) sourced_words (source_kind_word kind) (source_after name kind)
+rows_take_sources name source_kind.Clear = λ bytes r e.
+    let s = (clear_reads name).takes bytes r e in
+    let t = sourced_says name (origin.Clear s.0) r s.2 s.1 s.4 in
+    (t.0, after_source (source_kind_word source_kind.Clear) bytes r (origin.Clear s.0) t.1 (refl, (s.2, s.3, t.2)))
+rows_take_sources name source_kind.Sealed = λ bytes r e.
+    let k = (sealed_reads name).takes bytes r e in
+    let s = k.4 in
+    let source : ImportSource = origin.Sealed k.0 s.0 in
+    let t = sourced_says name source r s.2 (k.1, s.1) s.4 in
+    (t.0, after_source (source_kind_word source_kind.Sealed) bytes r source t.1 (refl, (k.2, k.3, (s.2, s.3, t.2))))
+rows_take_sources name source_kind.Part = row_never (NamedFits name) sourced_words (source_kind_word source_kind.Part)
 
 source_again : (r : ImportRequest) (s : ImportSource) (bytes : List ℕ) → SourceFits s → UsesFit r.uses → Says bytes (source_words s ++ uses_word r.uses ∷ verify_word r.verify ∷ [])
-    → one_of (source_rows r.name) bytes ≡ Some (record { name = r.name; source = s; uses = r.uses; verify = r.verify })
+    → with_field read_source_kind (source_after r.name) bytes ≡ Some (record { name = r.name; source = s; uses = r.uses; verify = r.verify })
 source_again r (origin.Clear value) bytes fits small h =
     let m : ImportRequest = record { name = r.name; source = origin.Clear value; uses = r.uses; verify = r.verify } in
-    one_of_again (source_rows r.name) (codes "clear") (bytes_word value ∷ uses_word r.uses ∷ verify_word r.verify ∷ []) bytes h
+    row_at read_source_kind source_kind_word (source_after r.name) source_kind_field source_kind.Clear (bytes_word value ∷ uses_word r.uses ∷ verify_word r.verify ∷ []) bytes h
     ∙ (clear_reads r.name).again h.0 m (value, fits, h.2.0, h.2.1, says_sourced m h.2.0 small h.2.2)
 source_again r (origin.Sealed key value) bytes fits small h =
     let m : ImportRequest = record { name = r.name; source = origin.Sealed key value; uses = r.uses; verify = r.verify } in
     let s = h.2.2 in
-    one_of_again (source_rows r.name) (codes "sealed") (name_word key ∷ bytes_word value ∷ uses_word r.uses ∷ verify_word r.verify ∷ []) bytes h
+    row_at read_source_kind source_kind_word (source_after r.name) source_kind_field source_kind.Sealed (name_word key ∷ bytes_word value ∷ uses_word r.uses ∷ verify_word r.verify ∷ []) bytes h
     ∙ (sealed_reads r.name).again h.0 m (key, fits.0, h.2.0, h.2.1, (value, fits.1, s.0, s.1, says_sourced m s.0 small s.2))
 source_again r origin.Part bytes fits small h = absurd fits
 
-source_reads : (name : List ℕ) → Reads (one_of (source_rows name)) (Spelled (NamedFits name) sourced_words)
+source_reads : (name : List ℕ) → Reads (with_field read_source_kind (source_after name)) (Spelled (NamedFits name) sourced_words)
 source_reads name = record {
-  takes = one_of_takes (NamedFits name) sourced_words (source_rows name) (source_rows_take name);
-  again = λ bytes r s. subst (λ n. one_of (source_rows n) bytes ≡ Some r) s.0.0 (source_again r r.source bytes s.0.1 s.0.2 s.1);
+  takes = rows_take read_source_kind source_kind_word (source_after name) source_kind_field (NamedFits name) sourced_words (rows_take_sources name);
+  again = λ bytes r s. subst (λ n. with_field read_source_kind (source_after n) bytes ≡ Some r) s.0.0 (source_again r r.source bytes s.0.1 s.0.2 s.1);
   ends = λ bytes r s. says_end (sourced_words r) bytes s.1;
 }
 

@@ -11,7 +11,6 @@ pub mod NameLaws
 pub mod NibbleLaws
 pub mod DigitLemmas
 pub mod ByteLaws
-pub mod KeyLaws
 pub mod Fits
 pub mod PinBlockLaws
 pub mod ImportLaws

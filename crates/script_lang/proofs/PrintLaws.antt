@@ -1,8 +1,11 @@
 -- What is printed is read again.
-use Rattle.std.proofs.Common.{◌≡◌, ℕ, List, [], ◌∷◌, ◌++◌, Some, refl, sym, subst, arith, rules}
+use Rattle.std.proofs.Common.{◌≡◌, ℕ, List, [], ◌∷◌, ◌++◌, Some, refl, sym, subst, arith}
 use Rattle.std.specs.Prelude.{IsTrue}
 use Rattle.std.specs.List.{AllByRecursion}
-use Rattle.pad_steps.specs.Formed.{is_scripted}
+use Rattle.pad_steps.specs.Today.{is_line_today}
+use Rattle.script_lang.specs.declared.kinds.CommandVerb.TheVariants as command_verb
+use Rattle.script_lang.specs.declared.kinds.LineVerb.TheVariants as line_verb
+use Rattle.script_lang.specs.declared.kinds.SourceKind.TheVariants as source_kind
 use Rattle.pad_steps.specs.declared.commands.BlockRequest.{BlockRequest}
 use Rattle.pad_steps.specs.declared.commands.Command.{Command}
 use Rattle.pad_steps.specs.declared.commands.Command.TheVariants as command
@@ -17,9 +20,11 @@ use Rattle.script_lang.specs.declared.kinds.Line.TheVariants.{Do}
 use Rattle.script_lang.specs.Words.{Word, Says, spaced, joined}
 use Rattle.script_lang.specs.Reading.{line_of}
 use Rattle.script_lang.specs.Spelling.{block_word, block_words, command_words, crypt_words, import_words, name_word, source_words, step_text, step_words, uses_word, verify_word, Spells}
-use Rattle.script_lang.proofs.Fits.{BlockFits, CommandFits, CryptFits, ImportFits, NameFits, RequestFits, SourceFits, StepFits, StepFits-from_scripted}
+use Rattle.script_lang.proofs.Fits.{BlockFits, CommandFits, CryptFits, ImportFits, NameFits, RequestFits, SourceFits, StepFits, StepFits-from_line}
 use Rattle.script_lang.proofs.LineLaws.{line_again}
-use Rattle.script_lang.proofs.WordPrints.{Prints, algorithm_prints, block_prints, body_prints, byte_prints, bytes_print, classes_print, digits_print, direction_prints, end_prints, form_prints, key_prints, mask_prints, name_prints, nibbles_print, number_prints, optional_prints, says_spaced, start_prints, uses_print, verify_prints}
+use Rattle.script_lang.proofs.Readers.{Prints}
+use Rattle.script_lang.proofs.WordLaws.{algorithm_prints, classes_print, command_verb_prints, direction_prints, end_prints, form_prints, line_verb_prints, source_kind_prints, verify_prints}
+use Rattle.script_lang.proofs.WordPrints.{block_prints, body_prints, byte_prints, bytes_print, digits_print, key_prints, mask_prints, name_prints, nibbles_print, number_prints, optional_prints, says_spaced, start_prints, uses_print}
 
 -- ---- commands
 
@@ -27,8 +32,8 @@ block_words_print : (r : BlockRequest) → RequestFits r → AllByRecursion Prin
 block_words_print r fits = (form_prints r.form, (name_prints r.key fits.0, (optional_prints NameFits name_word name_prints r.second fits.1, (optional_prints BlockFits block_word block_prints r.xor fits.2, (nibbles_print r.customer fits.3.2, (digits_print (r.pad ∷ []) (fits.4, tt), tt))))))
 
 source_prints : (s : ImportSource) (more : List Word) → SourceFits s → AllByRecursion Prints more → AllByRecursion Prints (source_words s ++ more)
-source_prints (origin.Clear value) more fits all = ((refl, refl), (bytes_print value fits.2, all))
-source_prints (origin.Sealed name value) more fits all = ((refl, refl), (name_prints name fits.0, (bytes_print value fits.1.2, all)))
+source_prints (origin.Clear value) more fits all = (source_kind_prints source_kind.Clear, (bytes_print value fits.2, all))
+source_prints (origin.Sealed name value) more fits all = (source_kind_prints source_kind.Sealed, (name_prints name fits.0, (bytes_print value fits.1.2, all)))
 source_prints origin.Part more fits all = absurd fits
 
 import_prints : (r : ImportRequest) → ImportFits r → AllByRecursion Prints (import_words r)
@@ -38,59 +43,32 @@ crypt_words_print : (r : CryptRequest) → CryptFits r → AllByRecursion Prints
 crypt_words_print r fits = (algorithm_prints r.algorithm, (direction_prints r.direction, (name_prints r.key fits.0, (start_prints r.start fits.1, (byte_prints r.pad fits.2, (body_prints r.body fits.3.2, tt))))))
 
 command_prints : (c : Command) → CommandFits c → AllByRecursion Prints (command_words c)
-command_prints (command.GetPin r) fits = ((refl, refl), (number_prints r.min (omega (arith, fits.0)), (number_prints r.max (omega (arith, fits.1)), (end_prints r.auto_end, (mask_prints r.active fits.2, (mask_prints r.terminate fits.3, tt))))))
-command_prints (command.GetData rules) fits = absurd fits
-command_prints (command.SecureKeyEntry rules) fits = absurd fits
-command_prints (command.MaintainPin on) fits = absurd fits
-command_prints (command.Pin (pin.Block r)) fits = ((refl, refl), block_words_print r fits)
-command_prints (command.Pin (pin.Check r)) fits = absurd fits
-command_prints (command.Pin (pin.Extra r)) fits = absurd fits
-command_prints (command.Crypt r) fits = ((refl, refl), crypt_words_print r fits)
-command_prints (command.ImportKey r) fits = ((refl, refl), import_prints r fits)
-command_prints (command.DeleteKey name) fits = ((refl, refl), (name_prints name fits, tt))
-command_prints command.Init fits = absurd fits
-command_prints command.Reset fits = absurd fits
-command_prints command.RsaImport fits = ((refl, refl), tt)
+command_prints (command.GetPin r) fits = (command_verb_prints command_verb.GetPin, (number_prints r.min (omega (arith, fits.0)), (number_prints r.max (omega (arith, fits.1)), (end_prints r.auto_end, (mask_prints r.active fits.2, (mask_prints r.terminate fits.3, tt))))))
+command_prints (command.Pin (pin.Block r)) fits = (command_verb_prints command_verb.PinBlock, block_words_print r fits)
+command_prints (command.Crypt r) fits = (command_verb_prints command_verb.Crypt, crypt_words_print r fits)
+command_prints (command.ImportKey r) fits = (command_verb_prints command_verb.Import, import_prints r fits)
+command_prints (command.DeleteKey name) fits = (command_verb_prints command_verb.Delete, (name_prints name fits, tt))
+command_prints command.RsaImport fits = (command_verb_prints command_verb.Rsa, tt)
+command_prints other fits = absurd fits
 
 -- ---- steps
 
 step_prints : (s : Step) → StepFits s → AllByRecursion Prints (step_words s)
-step_prints (step.Open s) fits = ((refl, refl), (number_prints s.number (omega (arith, s.valid)), tt))
-step_prints (step.Listen s c) fits = ((refl, refl), (number_prints s.number (omega (arith, s.valid)), (classes_print c.service c.execute, tt)))
-step_prints (step.Submit s t c) fits = ((refl, refl), (number_prints s.number (omega (arith, s.valid)), (number_prints t (omega (arith, fits.0)), command_prints c fits.1)))
-step_prints (step.Press k) fits = ((refl, refl), (key_prints k fits, tt))
-step_prints (step.Close s) fits = absurd fits
-step_prints (step.Lock s) fits = absurd fits
-step_prints (step.Unlock s) fits = absurd fits
-step_prints (step.Cancel s id) fits = absurd fits
-step_prints step.Begin fits = absurd fits
-step_prints step.Finish fits = absurd fits
-step_prints (step.Tick n) fits = absurd fits
-step_prints (step.Ask s asked) fits = absurd fits
-step_prints step.Off fits = absurd fits
-step_prints step.Boot fits = absurd fits
+step_prints (step.Open s) fits = (line_verb_prints line_verb.Open, (number_prints s.number (omega (arith, s.valid)), tt))
+step_prints (step.Listen s c) fits = (line_verb_prints line_verb.Listen, (number_prints s.number (omega (arith, s.valid)), (classes_print c, tt)))
+step_prints (step.Submit s t c) fits = (line_verb_prints line_verb.Submit, (number_prints s.number (omega (arith, s.valid)), (number_prints t (omega (arith, fits.0)), command_prints c fits.1)))
+step_prints (step.Press k) fits = (line_verb_prints line_verb.Press, (key_prints k fits, tt))
+step_prints other fits = absurd fits
 
 -- every step has words
 some_words : (s : Step) → 32 ∷ joined (step_words s) ≡ spaced (step_words s)
-some_words (step.Open s) = refl
-some_words (step.Close s) = refl
-some_words (step.Listen s c) = refl
-some_words (step.Lock s) = refl
-some_words (step.Unlock s) = refl
-some_words (step.Submit s t c) = refl
-some_words (step.Cancel s n) = refl
 some_words step.Begin = refl
-some_words step.Finish = refl
-some_words (step.Press k) = refl
-some_words (step.Tick n) = refl
-some_words (step.Ask s q) = refl
-some_words step.Off = refl
-some_words step.Boot = refl
+some_words other = refl
 
 -- the printed line spells the step
-pub text_spells : (s : Step) → IsTrue (is_scripted s) → Spells (step_text s) (Do s)
+pub text_spells : (s : Step) → IsTrue (is_line_today s) → Spells (step_text s) (Do s)
 unfolding step_text
-text_spells s built = (built, subst (λ (bytes : List ℕ). Says bytes (step_words s)) (sym (some_words s)) (says_spaced (step_words s) (step_prints s (StepFits-from_scripted s built))))
+text_spells s spelled = (spelled, subst (λ (bytes : List ℕ). Says bytes (step_words s)) (sym (some_words s)) (says_spaced (step_words s) (step_prints s (StepFits-from_line s spelled))))
 
-pub text_again : (s : Step) → IsTrue (is_scripted s) → line_of (step_text s) ≡ Some (Do s)
-text_again s built = line_again (step_text s) (Do s) (text_spells s built)
+pub text_again : (s : Step) → IsTrue (is_line_today s) → line_of (step_text s) ≡ Some (Do s)
+text_again s spelled = line_again (step_text s) (Do s) (text_spells s spelled)

@@ -1,8 +1,10 @@
 -- Readers of the words that spell a value: a field and what is read after it.
 use Rattle.std.proofs.Common.{◌≡◌, ℕ, List, [], length, Option, Some, eqb, refl, ap, ◌∙◌}
+use Rattle.std.specs.Prelude.{IsTrue}
+use Rattle.std.specs.List.{list_all}
 use Rattle.std.proofs.lemmas.List.{nil_from_length}
 use Rattle.std.proofs.lemmas.Bool.{eqb-true}
-use Rattle.script_lang.specs.Words.{Word, IsWord, FirstWord}
+use Rattle.script_lang.specs.Words.{FirstWord, IsWord, Word, is_no_space, word_text}
 use Rattle.script_lang.specs.Reading.{◌>>=◌, next_word, with_field, ended}
 use Rattle.std.specs.Option.{option_map}
 use Rattle.script_lang.proofs.Fronts.{IsEnd, next_word-again, next_word-takes}
@@ -12,6 +14,13 @@ use Rattle.script_lang.proofs.Options.{bind_some, chosen_some, mapped_some}
 pub record IsField {A : Type 0} (f : List ℕ → Option A) (Fits : A → Type 0) (word : A → Word) : Type 0 where
   pub takes : (text : List ℕ) (x : A) → f text ≡ Some x → Fits x × IsWord text (word x)
   pub again : (text : List ℕ) (x : A) → Fits x → IsWord text (word x) → f text ≡ Some x
+
+abbrev pub Spaceless : List ℕ → Type 0
+Spaceless text = IsTrue (list_all is_no_space text)
+
+-- a word whose printed text can be read
+abbrev pub Prints : Word → Type 0
+Prints w = Spaceless (word_text w) × IsWord (word_text w) w
 
 -- what is read of these bytes is the value that they say, and they begin where a word ended
 pub record Reads {B : Type 0} (k : List ℕ → Option B) (S : B → List ℕ → Type 0) : Type 0 where

@@ -1,142 +1,150 @@
 -- Words of few values.
-use Rattle.std.proofs.Common.{◌≡◌, ℕ, List, Option, Some, None, Bool, true, false, cond, refl, subst, inl, inr}
-use Rattle.std.specs.Prelude.{bytes_eq, codes}
-use Rattle.script_lang.specs.Reading.{read_algorithm, read_direction, read_end, read_classes, read_verify, read_form}
-use Rattle.pad_words.specs.declared.Direction.{Direction}
-use Rattle.pad_words.specs.declared.Direction.TheVariants as direction
-use Rattle.pad_steps.specs.declared.commands.Algorithm.{Algorithm}
-use Rattle.pad_steps.specs.declared.commands.Algorithm.TheVariants as algorithm
-use Rattle.pad_steps.specs.declared.commands.Form.{Form}
-use Rattle.pad_steps.specs.declared.commands.Form.TheVariants as forms
-use Rattle.pad_steps.specs.declared.commands.Verify.{Verify}
-use Rattle.pad_steps.specs.declared.commands.Verify.TheVariants as verify
+use Rattle.std.proofs.Common.{◌≡◌, ℕ, List, Option, Some, Bool, true, false, cond, refl, subst, inl, inr, ap, ◌∙◌}
+use Rattle.std.specs.Prelude.{IsTrue, bytes_eq}
+use denote.Enum.Bare.{Bare, sameb}
+use denote.Enum.Declared.{Declared}
+use mathlib.Core.Bool.{beq}
+use Rattle.pad_words.specs.contracts.Direction.{the_type as direction_type}
+use Rattle.pad_steps.specs.contracts.commands.Algorithm.{the_type as algorithm_type}
+use Rattle.pad_steps.specs.contracts.commands.Form.{the_type as form_type}
+use Rattle.pad_steps.specs.contracts.commands.Verify.{the_type as verify_type}
 use Rattle.pad_steps.specs.declared.steps.Classes.{Classes}
-use Rattle.script_lang.specs.Spelling.{algorithm_text, algorithm_word, direction_text, direction_word, end_text, end_word, classes_text, classes_word, verify_text, verify_word, form_text, form_word}
-use Rattle.script_lang.proofs.Options.{cases_some, same_bytes, some_is}
-use Rattle.script_lang.proofs.Readers.{Always, IsField}
+use Rattle.script_lang.specs.contracts.kinds.CommandVerb.{the_type as command_verb_type}
+use Rattle.script_lang.specs.contracts.kinds.LineVerb.{the_type as line_verb_type}
+use Rattle.script_lang.specs.contracts.kinds.SourceKind.{the_type as source_kind_type}
+use Rattle.pad_words.specs.declared.Direction.{Direction}
+use Rattle.pad_steps.specs.declared.commands.Algorithm.{Algorithm}
+use Rattle.pad_steps.specs.declared.commands.Form.{Form}
+use Rattle.pad_steps.specs.declared.commands.Verify.{Verify}
+use Rattle.script_lang.specs.declared.kinds.CommandVerb.{CommandVerb}
+use Rattle.script_lang.specs.declared.kinds.LineVerb.{LineVerb}
+use Rattle.script_lang.specs.declared.kinds.SourceKind.{SourceKind}
+use Rattle.std.specs.List.{list_all}
+use Rattle.spelled_words.specs.TableLaws.{Agrees-from_rows, covers, covers_agree, covers_all, word_passes}
+use Rattle.spelled_words.specs.Tables.{Agrees, has_word, value_of, word_of}
+use Rattle.script_lang.specs.Words.{Exact, algorithm_text, algorithm_words, classes_text, classes_words, command_verb_text, command_verbs, direction_text, direction_words, end_text, end_words, form_text, form_words, is_no_space, line_verb_text, line_verbs, same_classes, source_kind_text, source_kinds, verify_text, verify_words}
+use Rattle.script_lang.specs.Reading.{read_algorithm, read_classes, read_command_verb, read_direction, read_end, read_form, read_line_verb, read_source_kind, read_verify}
+use Rattle.script_lang.specs.Spelling.{algorithm_word, classes_word, command_verb_word, direction_word, end_word, form_word, line_verb_word, source_kind_word, verify_word}
+use Rattle.script_lang.proofs.Options.{both_true, cases_some, same_bytes, some_is}
+use Rattle.script_lang.proofs.Readers.{Always, IsField, Prints}
 
 -- the value of the first pair with this word
 pub word_cases : {A : Type 0} (text word : List ℕ) (x : A) (more : Option A) (y : A) (P : A → Type 0) → cond (bytes_eq text word) (Some x) more ≡ Some y → (text ≡ word → P x) → (more ≡ Some y → P y) → P y
 word_cases text word x more y P e here else =
     elim (cases_some (bytes_eq text word) (Some x) more y e) [ inl a ↦ subst P (some_is x y a.1) (here (same_bytes text word a.0)) | inr b ↦ else b.1 ]
 
-end_again : (b : Bool) → read_end (end_text b) ≡ Some b
-unfolding read_end end_text
-end_again true = refl
-end_again false = refl
+-- ---- tables
+
+-- a table of which every value has a word is a field
+word_field : {A : Type 0} (same : A → A → Bool) (table : List (A × List ℕ)) → Agrees same table → ((value : A) → IsTrue (has_word same table value)) → IsField (value_of table) Always (λ value. Exact (word_of same table value))
+word_field same table agrees has = record {
+  takes = λ text value e. (tt, (agrees.written text value e).1);
+  again = λ text value h is. ap (value_of table) is ∙ agrees.again value (has value);
+}
+
+-- a table without a space in its words
+word_prints : {A : Type 0} (same : A → A → Bool) (table : List (A × List ℕ)) → ((value : A) → IsTrue (has_word same table value)) → list_all (λ (row : A × List ℕ). list_all is_no_space row.1) table ≡ true → (value : A) → Prints (Exact (word_of same table value))
+word_prints {A} same table has all value = ((word_passes same (λ (row : A × List ℕ). list_all is_no_space row.1) table value (has value) all).2, refl)
+
+-- a table with a row for each variant of an enum
+enum_field : (D : Declared) (table : List (D.D × List ℕ)) → Bare D.parts → covers D table ≡ true → IsField (value_of table) Always (λ value. Exact (word_of (sameb D) table value))
+enum_field D table bare all = word_field (sameb D) table (covers_agree D table bare all) (covers_all D table all)
+
+enum_prints : (D : Declared) (table : List (D.D × List ℕ)) → covers D table ≡ true → list_all (λ (row : D.D × List ℕ). list_all is_no_space row.1) table ≡ true → (value : D.D) → Prints (Exact (word_of (sameb D) table value))
+enum_prints D table all = word_prints (sameb D) table (covers_all D table all)
+
+beq-equal : (a b : Bool) → beq a b ≡ true → a ≡ b
+beq-equal true true e = refl
+beq-equal true false e = absurd cc
+beq-equal false true e = absurd cc
+beq-equal false false e = refl
+
+end_has_word : (auto_end : Bool) → IsTrue (has_word beq end_words auto_end)
+end_has_word true = refl
+end_has_word false = refl
 
 pub end_field : IsField read_end Always end_word
 unfolding read_end end_text
-end_field = record {
-  takes = λ text b e. (tt, word_cases text (codes "auto") true _ b (λ b. text ≡ end_text b) e (λ is. is) (λ e. word_cases text (codes "hold") false None b (λ b. text ≡ end_text b) e (λ is. is) (λ e. absurd cc)));
-  again = λ text b h is. rw is (end_again b);
-}
+end_field = word_field beq end_words (Agrees-from_rows beq end_words beq-equal refl) end_has_word
 
-classes_again : (s e : Bool) → read_classes (classes_text (record { service = s; execute = e })) ≡ Some (record { service = s; execute = e })
-unfolding read_classes classes_text
-classes_again true true = refl
-classes_again true false = refl
-classes_again false true = refl
-classes_again false false = refl
+pub end_prints : (auto_end : Bool) → Prints (end_word auto_end)
+unfolding end_text
+end_prints = word_prints beq end_words end_has_word refl
+
+same_classes-equal : (a b : Classes) → same_classes a b ≡ true → a ≡ b
+same_classes-equal a b e =
+    let parts = both_true (beq a.service b.service) (beq a.execute b.execute) e in
+    λ i. record { service = beq-equal a.service b.service parts.0 i; execute = beq-equal a.execute b.execute parts.1 i }
+
+has_both : (service execute : Bool) → let classes : Classes = record { service = service; execute = execute } in IsTrue (has_word same_classes classes_words classes)
+has_both true true = refl
+has_both true false = refl
+has_both false true = refl
+has_both false false = refl
+
+classes_have_word : (classes : Classes) → IsTrue (has_word same_classes classes_words classes)
+classes_have_word classes = has_both classes.service classes.execute
 
 pub classes_field : IsField read_classes Always classes_word
 unfolding read_classes classes_text
-classes_field = record {
-  takes = λ text c e.
-      let P : Classes → Type 0 = λ c. text ≡ classes_text c in (
-        tt,
-        word_cases text (codes "none") (record { service = false; execute = false }) _ c P e (λ is. is)
-            (λ e. word_cases text (codes "service") (record { service = true; execute = false }) _ c P e (λ is. is)
-            (λ e. word_cases text (codes "execute") (record { service = false; execute = true }) _ c P e (λ is. is)
-            (λ e. word_cases text (codes "both") (record { service = true; execute = true }) None c P e (λ is. is) (λ e. absurd cc)))),
-      );
-  again = λ text c h is. rw is (classes_again c.service c.execute);
-}
+classes_field = word_field same_classes classes_words (Agrees-from_rows same_classes classes_words same_classes-equal refl) classes_have_word
 
-verify_again : (v : Verify) → read_verify (verify_text v) ≡ Some v
-unfolding read_verify verify_text
-verify_again verify.Nothing = refl
-verify_again verify.Own = refl
-verify_again verify.Zero = refl
+pub classes_print : (classes : Classes) → Prints (classes_word classes)
+unfolding classes_text
+classes_print = word_prints same_classes classes_words classes_have_word refl
 
 pub verify_field : IsField read_verify Always verify_word
 unfolding read_verify verify_text
-verify_field = record {
-  takes = λ text v e.
-      let P : Verify → Type 0 = λ v. text ≡ verify_text v in (
-        tt,
-        word_cases text (codes "none") verify.Nothing _ v P e (λ is. is)
-            (λ e. word_cases text (codes "self") verify.Own _ v P e (λ is. is)
-            (λ e. word_cases text (codes "zero") verify.Zero None v P e (λ is. is) (λ e. absurd cc))),
-      );
-  again = λ text v h is. rw is (verify_again v);
-}
+verify_field = enum_field verify_type verify_words tt refl
 
-form_again : (f : Form) → read_form (form_text f) ≡ Some f
-unfolding read_form form_text
-form_again forms.Iso0 = refl
-form_again forms.Iso1 = refl
-form_again forms.Iso2 = refl
-form_again forms.Iso3 = refl
-form_again forms.Iso4 = refl
-form_again forms.Ibm3624 = refl
-form_again forms.Diebold = refl
-form_again forms.DieboldCo = refl
+pub verify_prints : (mode : Verify) → Prints (verify_word mode)
+unfolding verify_text
+verify_prints = enum_prints verify_type verify_words refl refl
 
 pub form_field : IsField read_form Always form_word
 unfolding read_form form_text
-form_field = record {
-  takes = λ text f e.
-      let P : Form → Type 0 = λ f. text ≡ form_text f in (
-        tt,
-        word_cases text (codes "iso0") forms.Iso0 _ f P e (λ is. is)
-            (λ e. word_cases text (codes "iso1") forms.Iso1 _ f P e (λ is. is)
-            (λ e. word_cases text (codes "iso2") forms.Iso2 _ f P e (λ is. is)
-            (λ e. word_cases text (codes "iso3") forms.Iso3 _ f P e (λ is. is)
-            (λ e. word_cases text (codes "iso4") forms.Iso4 _ f P e (λ is. is)
-            (λ e. word_cases text (codes "ibm3624") forms.Ibm3624 _ f P e (λ is. is)
-            (λ e. word_cases text (codes "diebold") forms.Diebold _ f P e (λ is. is)
-            (λ e. word_cases text (codes "dieboldco") forms.DieboldCo None f P e (λ is. is) (λ e. absurd cc)))))))),
-      );
-  again = λ text f h is. rw is (form_again f);
-}
+form_field = enum_field form_type form_words tt refl
 
-algorithm_again : (a : Algorithm) → read_algorithm (algorithm_text a) ≡ Some a
-unfolding read_algorithm algorithm_text
-algorithm_again algorithm.Ecb = refl
-algorithm_again algorithm.Cbc = refl
-algorithm_again algorithm.Cfb = refl
-algorithm_again algorithm.Mac = refl
-algorithm_again algorithm.Retail = refl
+pub form_prints : (form : Form) → Prints (form_word form)
+unfolding form_text
+form_prints = enum_prints form_type form_words refl refl
 
 pub algorithm_field : IsField read_algorithm Always algorithm_word
 unfolding read_algorithm algorithm_text
-algorithm_field = record {
-  takes = λ text a e.
-      let P : Algorithm → Type 0 = λ a. text ≡ algorithm_text a in (
-        tt,
-        word_cases text (codes "ecb") algorithm.Ecb _ a P e (λ is. is)
-            (λ e. word_cases text (codes "cbc") algorithm.Cbc _ a P e (λ is. is)
-            (λ e. word_cases text (codes "cfb") algorithm.Cfb _ a P e (λ is. is)
-            (λ e. word_cases text (codes "mac") algorithm.Mac _ a P e (λ is. is)
-            (λ e. word_cases text (codes "retail") algorithm.Retail None a P e (λ is. is) (λ e. absurd cc))))),
-      );
-  again = λ text a h is. rw is (algorithm_again a);
-}
+algorithm_field = enum_field algorithm_type algorithm_words tt refl
 
-direction_again : (d : Direction) → read_direction (direction_text d) ≡ Some d
-unfolding read_direction direction_text
-direction_again direction.Encrypt = refl
-direction_again direction.Decrypt = refl
+pub algorithm_prints : (algorithm : Algorithm) → Prints (algorithm_word algorithm)
+unfolding algorithm_text
+algorithm_prints = enum_prints algorithm_type algorithm_words refl refl
 
 pub direction_field : IsField read_direction Always direction_word
 unfolding read_direction direction_text
-direction_field = record {
-  takes = λ text d e.
-      let P : Direction → Type 0 = λ d. text ≡ direction_text d in (
-        tt,
-        word_cases text (codes "encrypt") direction.Encrypt _ d P e (λ is. is)
-            (λ e. word_cases text (codes "decrypt") direction.Decrypt None d P e (λ is. is) (λ e. absurd cc)),
-      );
-  again = λ text d h is. rw is (direction_again d);
-}
+direction_field = enum_field direction_type direction_words tt refl
+
+pub direction_prints : (direction : Direction) → Prints (direction_word direction)
+unfolding direction_text
+direction_prints = enum_prints direction_type direction_words refl refl
+
+pub line_verb_field : IsField read_line_verb Always line_verb_word
+unfolding read_line_verb line_verb_text
+line_verb_field = enum_field line_verb_type line_verbs tt refl
+
+pub line_verb_prints : (verb : LineVerb) → Prints (line_verb_word verb)
+unfolding line_verb_text
+line_verb_prints = enum_prints line_verb_type line_verbs refl refl
+
+pub command_verb_field : IsField read_command_verb Always command_verb_word
+unfolding read_command_verb command_verb_text
+command_verb_field = enum_field command_verb_type command_verbs tt refl
+
+pub command_verb_prints : (verb : CommandVerb) → Prints (command_verb_word verb)
+unfolding command_verb_text
+command_verb_prints = enum_prints command_verb_type command_verbs refl refl
+
+pub source_kind_field : IsField read_source_kind Always source_kind_word
+unfolding read_source_kind source_kind_text
+source_kind_field = enum_field source_kind_type source_kinds tt refl
+
+pub source_kind_prints : (kind : SourceKind) → Prints (source_kind_word kind)
+unfolding source_kind_text
+source_kind_prints = enum_prints source_kind_type source_kinds refl refl

@@ -1,6 +1,6 @@
 -- Printed words are read again: they hold no space, and say what they spell.
-use Rattle.std.proofs.Common.{◌≡◌, ◌≤◌, ◌<◌, ℕ, ◌+◌, List, [], ◌∷◌, ◌++◌, length, Option, Some, None, Bool, true, false, refl, arith, ◌∙◌, ◌^◌, map}
-use Rattle.std.specs.Prelude.{IsTrue, ◌&&◌, nat_le}
+use Rattle.std.proofs.Common.{◌≡◌, ◌≤◌, ◌<◌, ℕ, List, [], ◌∷◌, ◌++◌, length, Option, Some, None, true, refl, arith, ◌∙◌, ◌^◌, ◌/◌, ◌%◌, map}
+use Rattle.std.specs.Prelude.{◌&&◌, nat_le}
 use Rattle.std.specs.List.{list_all, AllByRecursion}
 use Rattle.std.specs.Fmt.{decimal}
 use Rattle.std.specs.Str.{all_ascii_digits}
@@ -9,32 +9,17 @@ use Rattle.std.proofs.lemmas.List.Folds.{list_all-append}
 use Rattle.pad_words.specs.Bytes.{unpacked}
 use Rattle.pad_words.specs.Names.{is_name_byte}
 use Rattle.pad_words.specs.declared.bytes.Block.{Block}
+use Rattle.key_source.specs.KeyWordLaws.{key_text-passes}
 use Rattle.key_source.specs.declared.Key.{Key}
-use Rattle.key_source.specs.declared.Key.TheVariants as keypad
 use Rattle.key_source.specs.declared.Mask.{Mask}
-use Rattle.pad_words.specs.declared.Direction.{Direction}
-use Rattle.pad_words.specs.declared.Direction.TheVariants as direction
-use Rattle.pad_steps.specs.declared.commands.Algorithm.{Algorithm}
-use Rattle.pad_steps.specs.declared.commands.Algorithm.TheVariants as algorithm
-use Rattle.pad_steps.specs.declared.commands.Form.{Form}
-use Rattle.pad_steps.specs.declared.commands.Form.TheVariants as forms
 use Rattle.pad_steps.specs.declared.commands.Start.{Start}
 use Rattle.pad_steps.specs.declared.commands.Start.TheVariants as started
-use Rattle.pad_steps.specs.declared.commands.Verify.{Verify}
-use Rattle.pad_steps.specs.declared.commands.Verify.TheVariants as verify
-use Rattle.script_lang.specs.Words.{Word, Exact, Digits, Tagged, IsWord, Says, is_no_space, hex_value, hex_values, hex_digit, word_text, spaced}
-use Rattle.script_lang.specs.Spelling.{number_word, end_text, classes_text, key_text, key_word, mask_word, four_values, eight_values, verify_text, verify_word, form_text, form_word, name_word, optional_word, bytes_word, block_word, nibbles_word, uses_word, algorithm_text, algorithm_word, direction_text, direction_word, start_word, byte_word, body_word}
+use Rattle.script_lang.specs.Words.{Digits, Says, Tagged, Word, hex_digit, hex_value, hex_values, is_no_space, spaced, word_text}
+use Rattle.script_lang.specs.Spelling.{block_word, body_word, byte_word, bytes_word, eight_values, four_values, key_word, mask_word, name_word, nibbles_word, number_word, optional_word, start_word, uses_word}
 use Rattle.script_lang.proofs.Fits.{BlockFits, IsByte, IsNibble, KeyFits, MaskFits, NameFits, OptionFits, StartFits, UsesFit}
-use Rattle.script_lang.proofs.KeyLaws.{fdk_key_text, hex_key_text}
 use Rattle.script_lang.proofs.NumberLaws.{digits_decimal_all}
 use Rattle.script_lang.proofs.Options.{both_true}
-
-abbrev pub Spaceless : List ℕ → Type 0
-Spaceless text = IsTrue (list_all is_no_space text)
-
--- a word whose printed text can be read
-abbrev pub Prints : Word → Type 0
-Prints w = Spaceless (word_text w) × IsWord (word_text w) w
+use Rattle.script_lang.proofs.Readers.{Prints, Spaceless}
 
 pub says_spaced : (ws : List Word) → AllByRecursion Prints ws → Says (spaced ws) ws
 says_spaced [] all = refl
@@ -74,72 +59,21 @@ hex_values-digits (d ∷ ds) all = rw (hex_digit-value d all.0, hex_values-digit
 pub digits_print : (ds : List ℕ) → AllByRecursion IsNibble ds → Prints (Digits ds)
 digits_print ds all = (hex_spaceless ds, hex_values-digits ds all)
 
+all_append : (P : ℕ → Type 0) (xs ys : List ℕ) → AllByRecursion P xs → AllByRecursion P ys → AllByRecursion P (xs ++ ys)
+all_append P [] ys all more = more
+all_append P (x ∷ xs) ys all more = (all.0, all_append P xs ys all.1 more)
+
+four_values_small : (n : ℕ) → n < 65536 → AllByRecursion IsNibble (four_values n)
+four_values_small n small = (omega (arith, small), (omega arith, (omega arith, (omega arith, tt))))
+
+eight_values_small : (n : ℕ) → n < 2 ^ 32 → AllByRecursion IsNibble (eight_values n)
+eight_values_small n small = all_append IsNibble (four_values (n / 65536)) (four_values (n % 65536)) (four_values_small (n / 65536) (omega (arith, small))) (four_values_small (n % 65536) (omega arith))
+
 pub mask_prints : (m : Mask) → MaskFits m → Prints (mask_word m)
-mask_prints m fits = digits_print (eight_values m.keys ++ eight_values m.fdks) (
-  omega (arith, fits.0),
-  (
-    omega arith,
-    (
-      omega arith,
-      (
-        omega arith,
-        (
-          omega arith,
-          (
-            omega arith,
-            (
-              omega arith,
-              (
-                omega arith,
-                (omega (arith, fits.1), (omega arith, (omega arith, (omega arith, (omega arith, (omega arith, (omega arith, (omega arith, tt)))))))),
-              ),
-            ),
-          ),
-        ),
-      ),
-    ),
-  ),
-)
-
-pub end_prints : (b : Bool) → Prints (Exact (end_text b))
-unfolding end_text
-end_prints true = (refl, refl)
-end_prints false = (refl, refl)
-
-pub classes_print : (s e : Bool) → Prints (Exact (classes_text (record { service = s; execute = e })))
-unfolding classes_text
-classes_print true true = (refl, refl)
-classes_print true false = (refl, refl)
-classes_print false true = (refl, refl)
-classes_print false false = (refl, refl)
+mask_prints m fits = digits_print (eight_values m.keys ++ eight_values m.fdks) (all_append IsNibble (eight_values m.keys) (eight_values m.fdks) (eight_values_small m.keys fits.0) (eight_values_small m.fdks fits.1))
 
 pub key_prints : (k : Key) → KeyFits k → Prints (key_word k)
-unfolding key_text
-key_prints (keypad.Digit d) fits = let n = is_no_space_above (48 + d.value) (omega arith) in (rw n refl, refl)
-key_prints (keypad.Hex v) fits = rw (hex_key_text v fits, is_no_space_above (55 + v) (omega arith)) (refl, refl)
-key_prints keypad.Enter fits = (refl, refl)
-key_prints keypad.Cancel fits = (refl, refl)
-key_prints keypad.Clear fits = (refl, refl)
-key_prints keypad.Backspace fits = (refl, refl)
-key_prints keypad.Help fits = (refl, refl)
-key_prints (keypad.Fdk n) fits = rw (fdk_key_text n fits) ((number_prints n (omega (arith, fits.1))).0, refl)
-
-pub verify_prints : (v : Verify) → Prints (verify_word v)
-unfolding verify_text
-verify_prints verify.Nothing = (refl, refl)
-verify_prints verify.Own = (refl, refl)
-verify_prints verify.Zero = (refl, refl)
-
-pub form_prints : (f : Form) → Prints (form_word f)
-unfolding form_text
-form_prints forms.Iso0 = (refl, refl)
-form_prints forms.Iso1 = (refl, refl)
-form_prints forms.Iso2 = (refl, refl)
-form_prints forms.Iso3 = (refl, refl)
-form_prints forms.Iso4 = (refl, refl)
-form_prints forms.Ibm3624 = (refl, refl)
-form_prints forms.Diebold = (refl, refl)
-form_prints forms.DieboldCo = (refl, refl)
+key_prints k fits = (key_text-passes (list_all is_no_space) refl refl k fits, refl)
 
 name_byte_above : (c : ℕ) → is_name_byte c ≡ true → 32 < c
 name_byte_above c e = grind (arith, nat_tests)
@@ -172,20 +106,7 @@ nibbles_print [] all = (refl, refl)
 nibbles_print (v ∷ vs) all = digits_print (v ∷ vs) all
 
 pub uses_print : (uses : ℕ) → UsesFit uses → Prints (uses_word uses)
-uses_print uses small = digits_print (four_values uses) (omega (arith, small), (omega arith, (omega arith, (omega arith, tt))))
-
-pub algorithm_prints : (a : Algorithm) → Prints (algorithm_word a)
-unfolding algorithm_text
-algorithm_prints algorithm.Ecb = (refl, refl)
-algorithm_prints algorithm.Cbc = (refl, refl)
-algorithm_prints algorithm.Cfb = (refl, refl)
-algorithm_prints algorithm.Mac = (refl, refl)
-algorithm_prints algorithm.Retail = (refl, refl)
-
-pub direction_prints : (d : Direction) → Prints (direction_word d)
-unfolding direction_text
-direction_prints direction.Encrypt = (refl, refl)
-direction_prints direction.Decrypt = (refl, refl)
+uses_print uses small = digits_print (four_values uses) (four_values_small uses small)
 
 tagged_prints : (name ds : List ℕ) → NameFits name → AllByRecursion IsNibble ds → Prints (Tagged name ds)
 tagged_prints name ds fits all =

@@ -4,25 +4,20 @@ use Rattle.std.specs.Option.{option_map}
 use Rattle.std.specs.List.{prefix_len}
 use denote.Ref.{Bor}
 use Rattle.pad_words.specs.declared.Direction.{Direction}
-use Rattle.pad_words.specs.declared.Direction.TheVariants as direction
 use Rattle.pad_words.specs.declared.numbers.Session.{Session}
-use Rattle.pad_words.specs.declared.numbers.Digit.{Digit}
 use Rattle.pad_words.specs.Bytes.{packed}
 use Rattle.pad_words.specs.Names.{is_key_name}
-use Rattle.pad_words.specs.Numbers.{session_of, digit_of}
+use Rattle.pad_words.specs.Numbers.{session_of}
 use Rattle.pad_words.specs.declared.bytes.Block.{Block}
-use Rattle.key_source.specs.declared.Key.{Key}
-use Rattle.key_source.specs.declared.Key.TheVariants as keypad
+use Rattle.key_source.specs.KeyWords.{read_key}
 use Rattle.key_source.specs.declared.Mask.{Mask}
 use Rattle.pad_steps.specs.declared.commands.Algorithm.{Algorithm}
-use Rattle.pad_steps.specs.declared.commands.Algorithm.TheVariants as algorithm
 use Rattle.pad_steps.specs.declared.commands.BlockRequest.{BlockRequest}
 use Rattle.pad_steps.specs.declared.commands.Command.{Command}
 use Rattle.pad_steps.specs.declared.commands.Command.TheVariants as command
 use Rattle.pad_steps.specs.declared.commands.CryptRequest.{CryptRequest}
 use Rattle.pad_steps.specs.declared.commands.EntryRules.{EntryRules}
 use Rattle.pad_steps.specs.declared.commands.Form.{Form}
-use Rattle.pad_steps.specs.declared.commands.Form.TheVariants as forms
 use Rattle.pad_steps.specs.declared.commands.ImportRequest.{ImportRequest}
 use Rattle.pad_steps.specs.declared.commands.ImportSource.{ImportSource}
 use Rattle.pad_steps.specs.declared.commands.ImportSource.TheVariants as origin
@@ -30,15 +25,21 @@ use Rattle.pad_steps.specs.declared.commands.PinRequest.TheVariants as pin
 use Rattle.pad_steps.specs.declared.commands.Start.{Start}
 use Rattle.pad_steps.specs.declared.commands.Start.TheVariants as started
 use Rattle.pad_steps.specs.declared.commands.Verify.{Verify}
-use Rattle.pad_steps.specs.declared.commands.Verify.TheVariants as verify
 use Rattle.pad_steps.specs.declared.steps.Classes.{Classes}
 use Rattle.pad_steps.specs.declared.steps.Step.TheVariants as step
 use Rattle.script_lang.specs.declared.kinds.Line.{Line}
 use Rattle.script_lang.specs.declared.kinds.Line.TheVariants as line
 use Rattle.script_lang.specs.declared.kinds.LineFault.{LineFault}
 use Rattle.script_lang.specs.declared.kinds.LineFault.TheVariants as fault
-use Rattle.script_lang.specs.Words.{hex_value, hex_values, is_no_space}
-use Rattle.script_lang.specs.Spelling.{is_built}
+use Rattle.script_lang.specs.declared.kinds.CommandVerb.{CommandVerb}
+use Rattle.script_lang.specs.declared.kinds.CommandVerb.TheVariants as command_verb
+use Rattle.script_lang.specs.declared.kinds.LineVerb.{LineVerb}
+use Rattle.script_lang.specs.declared.kinds.LineVerb.TheVariants as line_verb
+use Rattle.script_lang.specs.declared.kinds.SourceKind.{SourceKind}
+use Rattle.script_lang.specs.declared.kinds.SourceKind.TheVariants as source_kind
+use Rattle.script_lang.specs.Words.{algorithm_words, classes_words, command_verbs, direction_words, end_words, form_words, hex_value, hex_values, is_no_space, line_verbs, source_kinds, verify_words}
+use Rattle.script_lang.specs.Spelling.{is_spelled}
+use Rattle.spelled_words.specs.Tables.{value_of}
 
 infixl 10 ◌>>=◌
 abbrev pub ◌>>=◌ : {A B : Type 0} → Option A → (A → Option B) → Option B
@@ -63,15 +64,6 @@ with_field field after bytes = next_word bytes >>= λ w. field w.0 >>= λ x. aft
 -- the value, where no byte is left
 abbrev pub ended : {A : Type 0} → A → List ℕ → Option A
 ended x bytes = if length bytes == 0 then Some x else None
-
--- what the row of this first word reads
-abbrev pub choose : {B : Type 0} → List (List ℕ × (List ℕ → Option B)) → List ℕ → List ℕ → Option B
-choose [] verb bytes = None
-choose (row ∷ rows) verb bytes = if bytes_eq verb row.0 then row.1 bytes else choose rows verb bytes
-
--- what the row of the next word reads
-abbrev pub one_of : {B : Type 0} → List (List ℕ × (List ℕ → Option B)) → List ℕ → Option B
-one_of rows bytes = next_word bytes >>= λ w. choose rows w.0 w.1
 
 -- ---- fields
 
@@ -174,60 +166,32 @@ unfoldable pub read_start : List ℕ → Option Start
 read_start word = if bytes_eq word (codes "-") then Some started.Zero else read_start_block (take (tag_len word) word) (drop (tag_len word) word)
 
 unfoldable pub read_end : List ℕ → Option Bool
-read_end word = if bytes_eq word (codes "auto") then Some true else if bytes_eq word (codes "hold") then Some false else None
+read_end = value_of end_words
 
 unfoldable pub read_classes : List ℕ → Option Classes
-read_classes word = if bytes_eq word (codes "none") then Some (record { service = false; execute = false })
-    else if bytes_eq word (codes "service") then Some (record { service = true; execute = false })
-    else if bytes_eq word (codes "execute") then Some (record { service = false; execute = true })
-    else if bytes_eq word (codes "both") then Some (record { service = true; execute = true })
-    else None
+read_classes = value_of classes_words
 
 unfoldable pub read_verify : List ℕ → Option Verify
-read_verify word = if bytes_eq word (codes "none") then Some verify.Nothing
-    else if bytes_eq word (codes "self") then Some verify.Own
-    else if bytes_eq word (codes "zero") then Some verify.Zero
-    else None
+read_verify = value_of verify_words
 
 unfoldable pub read_form : List ℕ → Option Form
-read_form word = if bytes_eq word (codes "iso0") then Some forms.Iso0
-    else if bytes_eq word (codes "iso1") then Some forms.Iso1
-    else if bytes_eq word (codes "iso2") then Some forms.Iso2
-    else if bytes_eq word (codes "iso3") then Some forms.Iso3
-    else if bytes_eq word (codes "iso4") then Some forms.Iso4
-    else if bytes_eq word (codes "ibm3624") then Some forms.Ibm3624
-    else if bytes_eq word (codes "diebold") then Some forms.Diebold
-    else if bytes_eq word (codes "dieboldco") then Some forms.DieboldCo
-    else None
+read_form = value_of form_words
 
 unfoldable pub read_algorithm : List ℕ → Option Algorithm
-read_algorithm word = if bytes_eq word (codes "ecb") then Some algorithm.Ecb
-    else if bytes_eq word (codes "cbc") then Some algorithm.Cbc
-    else if bytes_eq word (codes "cfb") then Some algorithm.Cfb
-    else if bytes_eq word (codes "mac") then Some algorithm.Mac
-    else if bytes_eq word (codes "retail") then Some algorithm.Retail
-    else None
+read_algorithm = value_of algorithm_words
 
 unfoldable pub read_direction : List ℕ → Option Direction
-read_direction word = if bytes_eq word (codes "encrypt") then Some direction.Encrypt
-    else if bytes_eq word (codes "decrypt") then Some direction.Decrypt
-    else None
+read_direction = value_of direction_words
 
--- the key of one byte: a digit, or A to F
-unfoldable pub read_figure : ℕ → Option Key
-read_figure c = if nat_le 48 c && nat_le c 57 then option_map (λ (d : Digit). keypad.Digit d) (digit_of (c - 48))
-    else if nat_le 65 c && nat_le c 70 then Some (keypad.Hex (c - 55))
-    else None
+-- the first word of a line, of a command and of the source of an import
+unfoldable pub read_line_verb : List ℕ → Option LineVerb
+read_line_verb = value_of line_verbs
 
-unfoldable pub read_key : List ℕ → Option Key
-read_key word = if length word == 1 then read_figure (slice_index word 0)
-    else if bytes_eq word (codes "enter") then Some keypad.Enter
-    else if bytes_eq word (codes "cancel") then Some keypad.Cancel
-    else if bytes_eq word (codes "clear") then Some keypad.Clear
-    else if bytes_eq word (codes "back") then Some keypad.Backspace
-    else if bytes_eq word (codes "help") then Some keypad.Help
-    else if nat_le 3 (length word) && bytes_eq (take 3 word) (codes "fdk") then option_map (λ (n : ℕ). keypad.Fdk n) (read_number 1 32 (drop 3 word))
-    else None
+unfoldable pub read_command_verb : List ℕ → Option CommandVerb
+read_command_verb = value_of command_verbs
+
+unfoldable pub read_source_kind : List ℕ → Option SourceKind
+read_source_kind = value_of source_kinds
 
 -- ---- rows
 
@@ -247,44 +211,44 @@ read_crypt = with_field read_algorithm (λ a. with_field read_direction (λ d. w
 unfoldable pub read_sourced : List ℕ → ImportSource → List ℕ → Option ImportRequest
 read_sourced name source = with_field read_uses (λ uses. with_field read_verify (λ v. ended (record { name = name; source = source; uses = uses; verify = v })))
 
--- an import of this name by the first word of its source
-abbrev pub source_rows : List ℕ → List (List ℕ × (List ℕ → Option ImportRequest))
-source_rows name =
-    (codes "clear", with_field (read_bytes 1 64) (λ value. read_sourced name (origin.Clear value))) ∷
-    (codes "sealed", with_field read_name (λ key. with_field (read_bytes 1 64) (λ value. read_sourced name (origin.Sealed key value)))) ∷ []
+-- an import of this name, behind the first word of its source
+abbrev pub source_after : List ℕ → SourceKind → List ℕ → Option ImportRequest
+source_after name source_kind.Clear = with_field (read_bytes 1 64) (λ value. read_sourced name (origin.Clear value))
+source_after name source_kind.Sealed = with_field read_name (λ key. with_field (read_bytes 1 64) (λ value. read_sourced name (origin.Sealed key value)))
+source_after name source_kind.Part = λ bytes. None
 
 unfoldable pub read_import : List ℕ → Option ImportRequest
-read_import = with_field read_name (λ name. one_of (source_rows name))
+read_import = with_field read_name (λ name. with_field read_source_kind (source_after name))
 
--- a command by its first word
-abbrev pub command_rows : List (List ℕ × (List ℕ → Option Command))
-command_rows =
-    (codes "getpin", λ bytes. option_map (λ (rules : EntryRules). command.GetPin rules) (read_rules bytes)) ∷
-    (codes "pinblock", λ bytes. option_map (λ (request : BlockRequest). command.Pin (pin.Block request)) (read_pinblock bytes)) ∷
-    (codes "import", λ bytes. option_map (λ (request : ImportRequest). command.ImportKey request) (read_import bytes)) ∷
-    (codes "crypt", λ bytes. option_map (λ (request : CryptRequest). command.Crypt request) (read_crypt bytes)) ∷
-    (codes "delete", with_field read_name (λ name. ended (command.DeleteKey name))) ∷
-    (codes "rsa", ended command.RsaImport) ∷ []
+-- a command, behind its first word
+abbrev pub command_after : CommandVerb → List ℕ → Option Command
+command_after command_verb.GetPin = λ bytes. option_map (λ (rules : EntryRules). command.GetPin rules) (read_rules bytes)
+command_after command_verb.PinBlock = λ bytes. option_map (λ (request : BlockRequest). command.Pin (pin.Block request)) (read_pinblock bytes)
+command_after command_verb.Import = λ bytes. option_map (λ (request : ImportRequest). command.ImportKey request) (read_import bytes)
+command_after command_verb.Crypt = λ bytes. option_map (λ (request : CryptRequest). command.Crypt request) (read_crypt bytes)
+command_after command_verb.Delete = with_field read_name (λ name. ended (command.DeleteKey name))
+command_after command_verb.Rsa = ended command.RsaImport
+command_after other = λ bytes. None
 
 unfoldable pub read_command : List ℕ → Option Command
-read_command = one_of command_rows
+read_command = with_field read_command_verb command_after
 
--- a line by its first word
-abbrev pub line_rows : List (List ℕ × (List ℕ → Option Line))
-line_rows =
-    (codes "open", with_field read_session (λ s. ended (line.Do (step.Open s)))) ∷
-    (codes "listen", with_field read_session (λ s. with_field read_classes (λ c. ended (line.Do (step.Listen s c))))) ∷
-    (codes "submit", with_field read_session (λ s. with_field (read_number 0 1000000) (λ limit bytes. option_map (λ (c : Command). line.Do (step.Submit s limit c)) (read_command bytes)))) ∷
-    (codes "press", with_field read_key (λ k. ended (line.Do (step.Press k)))) ∷
-    (codes "auto", ended line.Auto) ∷ []
+-- a line, behind its first word
+abbrev pub line_after : LineVerb → List ℕ → Option Line
+line_after line_verb.Auto = ended line.Auto
+line_after line_verb.Open = with_field read_session (λ s. ended (line.Do (step.Open s)))
+line_after line_verb.Listen = with_field read_session (λ s. with_field read_classes (λ c. ended (line.Do (step.Listen s c))))
+line_after line_verb.Submit = with_field read_session (λ s. with_field (read_number 0 1000000) (λ limit bytes. option_map (λ (c : Command). line.Do (step.Submit s limit c)) (read_command bytes)))
+line_after line_verb.Press = with_field read_key (λ k. ended (line.Do (step.Press k)))
+line_after other = λ bytes. None
 
--- the line, if it is built
-abbrev pub where_built : Line → Option Line
-where_built l = if is_built l then Some l else None
+-- the line, if its step is one that lines spell
+abbrev pub where_spelled : Line → Option Line
+where_spelled l = if is_spelled l then Some l else None
 
 -- the line that these bytes spell, if there is one
 unfoldable pub line_of : List ℕ → Option Line
-line_of bytes = choose line_rows (take (word_len bytes) bytes) (drop (word_len bytes) bytes) >>= where_built
+line_of bytes = (read_line_verb (take (word_len bytes) bytes) >>= λ verb. line_after verb (drop (word_len bytes) bytes)) >>= where_spelled
 
 -- a word and the rest that were found, without where they lie
 abbrev pub IsNextWord : Option (Bor (List ℕ) × Bor (List ℕ)) → Option (List ℕ × List ℕ) → Type 0

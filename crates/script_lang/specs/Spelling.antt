@@ -1,23 +1,20 @@
 -- The words of each line, and the text that is printed of a step.
-use Rattle.std.specs.Prelude.{Bool, IsTrue, List, None, Option, Some, [], codes, if◌then◌else◌, nat_le, true, ℕ, ◌%◌, ◌&&◌, ◌++◌, ◌+◌, ◌/◌, ◌∷◌}
+use Rattle.std.specs.Prelude.{Bool, IsTrue, List, None, Option, Some, [], codes, if◌then◌else◌, true, ℕ, ◌%◌, ◌++◌, ◌/◌, ◌∷◌}
 use Rattle.std.specs.Fmt.{decimal}
 use Rattle.pad_words.specs.declared.numbers.Session.{Session}
+use Rattle.key_source.specs.KeyWords.{key_text}
 use Rattle.key_source.specs.declared.Key.{Key}
-use Rattle.key_source.specs.declared.Key.TheVariants as keypad
 use Rattle.key_source.specs.declared.Mask.{Mask}
 use Rattle.pad_words.specs.Bytes.{unpacked}
 use Rattle.pad_words.specs.declared.Direction.{Direction}
-use Rattle.pad_words.specs.declared.Direction.TheVariants as direction
 use Rattle.pad_words.specs.declared.bytes.Block.{Block}
 use Rattle.pad_steps.specs.declared.commands.Algorithm.{Algorithm}
-use Rattle.pad_steps.specs.declared.commands.Algorithm.TheVariants as algorithm
 use Rattle.pad_steps.specs.declared.commands.BlockRequest.{BlockRequest}
 use Rattle.pad_steps.specs.declared.commands.Command.{Command}
 use Rattle.pad_steps.specs.declared.commands.Command.TheVariants as command
 use Rattle.pad_steps.specs.declared.commands.CryptRequest.{CryptRequest}
 use Rattle.pad_steps.specs.declared.commands.EntryRules.{EntryRules}
 use Rattle.pad_steps.specs.declared.commands.Form.{Form}
-use Rattle.pad_steps.specs.declared.commands.Form.TheVariants as forms
 use Rattle.pad_steps.specs.declared.commands.ImportRequest.{ImportRequest}
 use Rattle.pad_steps.specs.declared.commands.ImportSource.{ImportSource}
 use Rattle.pad_steps.specs.declared.commands.ImportSource.TheVariants as origin
@@ -27,16 +24,21 @@ use Rattle.pad_steps.specs.declared.commands.PinRequest.TheVariants as pin
 use Rattle.pad_steps.specs.declared.commands.Start.{Start}
 use Rattle.pad_steps.specs.declared.commands.Start.TheVariants as started
 use Rattle.pad_steps.specs.declared.commands.Verify.{Verify}
-use Rattle.pad_steps.specs.declared.commands.Verify.TheVariants as verify
 use Rattle.pad_steps.specs.declared.steps.Classes.{Classes}
 use Rattle.pad_steps.specs.declared.steps.Question.{Question}
 use Rattle.pad_steps.specs.declared.steps.Question.TheVariants as question
 use Rattle.pad_steps.specs.declared.steps.Step.{Step}
 use Rattle.pad_steps.specs.declared.steps.Step.TheVariants as step
-use Rattle.pad_steps.specs.Formed.{is_scripted}
+use Rattle.pad_steps.specs.Today.{is_line_today}
 use Rattle.script_lang.specs.declared.kinds.Line.{Line}
 use Rattle.script_lang.specs.declared.kinds.Line.TheVariants as line
-use Rattle.script_lang.specs.Words.{Word, Exact, Digits, Tagged, Says, joined}
+use Rattle.script_lang.specs.declared.kinds.CommandVerb.{CommandVerb}
+use Rattle.script_lang.specs.declared.kinds.CommandVerb.TheVariants as command_verb
+use Rattle.script_lang.specs.declared.kinds.LineVerb.{LineVerb}
+use Rattle.script_lang.specs.declared.kinds.LineVerb.TheVariants as line_verb
+use Rattle.script_lang.specs.declared.kinds.SourceKind.{SourceKind}
+use Rattle.script_lang.specs.declared.kinds.SourceKind.TheVariants as source_kind
+use Rattle.script_lang.specs.Words.{Digits, Exact, Says, Tagged, Word, algorithm_text, classes_text, command_verb_text, direction_text, end_text, form_text, joined, line_verb_text, source_kind_text, verify_text}
 
 -- ---- fields
 
@@ -59,56 +61,37 @@ eight_values n = four_values (n / 65536) ++ four_values (n % 65536)
 abbrev pub mask_word : Mask → Word
 mask_word m = Digits (eight_values m.keys ++ eight_values m.fdks)
 
--- the word of a key; a number that no key has is spelled by nothing
-unfoldable pub key_text : Key → List ℕ
-key_text (keypad.Digit d) = (48 + d.value) ∷ []
-key_text (keypad.Hex v) = if nat_le 10 v && nat_le v 15 then (55 + v) ∷ [] else []
-key_text keypad.Enter = codes "enter"
-key_text keypad.Cancel = codes "cancel"
-key_text keypad.Clear = codes "clear"
-key_text keypad.Backspace = codes "back"
-key_text keypad.Help = codes "help"
-key_text (keypad.Fdk n) = if nat_le 1 n && nat_le n 32 then codes "fdk" ++ decimal n else []
-
 abbrev pub key_word : Key → Word
 key_word k = Exact (key_text k)
 
--- the word of the classes of events that a session hears
-unfoldable pub classes_text : Classes → List ℕ
-classes_text c = if c.service then (if c.execute then codes "both" else codes "service") else (if c.execute then codes "execute" else codes "none")
-
+-- words of few values
 abbrev pub classes_word : Classes → Word
-classes_word c = Exact (classes_text c)
-
--- whether an entry ends by itself at its greatest length
-unfoldable pub end_text : Bool → List ℕ
-end_text auto_end = if auto_end then codes "auto" else codes "hold"
+classes_word classes = Exact (classes_text classes)
 
 abbrev pub end_word : Bool → Word
 end_word auto_end = Exact (end_text auto_end)
 
--- the word of a check mode
-unfoldable pub verify_text : Verify → List ℕ
-verify_text verify.Nothing = codes "none"
-verify_text verify.Own = codes "self"
-verify_text verify.Zero = codes "zero"
-
 abbrev pub verify_word : Verify → Word
-verify_word v = Exact (verify_text v)
-
--- the word of a form of PIN block
-unfoldable pub form_text : Form → List ℕ
-form_text forms.Iso0 = codes "iso0"
-form_text forms.Iso1 = codes "iso1"
-form_text forms.Iso2 = codes "iso2"
-form_text forms.Iso3 = codes "iso3"
-form_text forms.Iso4 = codes "iso4"
-form_text forms.Ibm3624 = codes "ibm3624"
-form_text forms.Diebold = codes "diebold"
-form_text forms.DieboldCo = codes "dieboldco"
+verify_word mode = Exact (verify_text mode)
 
 abbrev pub form_word : Form → Word
-form_word f = Exact (form_text f)
+form_word form = Exact (form_text form)
+
+abbrev pub algorithm_word : Algorithm → Word
+algorithm_word a = Exact (algorithm_text a)
+
+abbrev pub direction_word : Direction → Word
+direction_word d = Exact (direction_text d)
+
+-- the first word of a line, of a command and of the source of an import
+abbrev pub line_verb_word : LineVerb → Word
+line_verb_word verb = Exact (line_verb_text verb)
+
+abbrev pub command_verb_word : CommandVerb → Word
+command_verb_word verb = Exact (command_verb_text verb)
+
+abbrev pub source_kind_word : SourceKind → Word
+source_kind_word kind = Exact (source_kind_text kind)
 
 -- a key's name, as it stands
 abbrev pub name_word : List ℕ → Word
@@ -138,25 +121,6 @@ nibbles_word (value ∷ values) = Digits (value ∷ values)
 -- four hexadecimal digits
 abbrev pub uses_word : ℕ → Word
 uses_word uses = Digits (four_values uses)
-
--- the word of an algorithm
-unfoldable pub algorithm_text : Algorithm → List ℕ
-algorithm_text algorithm.Ecb = codes "ecb"
-algorithm_text algorithm.Cbc = codes "cbc"
-algorithm_text algorithm.Cfb = codes "cfb"
-algorithm_text algorithm.Mac = codes "mac"
-algorithm_text algorithm.Retail = codes "retail"
-
-abbrev pub algorithm_word : Algorithm → Word
-algorithm_word a = Exact (algorithm_text a)
-
--- the word of a direction
-unfoldable pub direction_text : Direction → List ℕ
-direction_text direction.Encrypt = codes "encrypt"
-direction_text direction.Decrypt = codes "decrypt"
-
-abbrev pub direction_word : Direction → Word
-direction_word d = Exact (direction_text d)
 
 -- a start value: `-` for zeros, a block, or a key's name, a colon and the block sealed under that key
 abbrev pub start_word : Start → Word
@@ -189,9 +153,9 @@ block_words r = form_word r.form ∷ name_word r.key ∷ optional_word name_word
 
 -- where a key's value comes from
 abbrev pub source_words : ImportSource → List Word
-source_words (origin.Clear value) = Exact (codes "clear") ∷ bytes_word value ∷ []
-source_words (origin.Sealed name value) = Exact (codes "sealed") ∷ name_word name ∷ bytes_word value ∷ []
-source_words origin.Part = Exact (codes "part") ∷ []
+source_words (origin.Clear value) = source_kind_word source_kind.Clear ∷ bytes_word value ∷ []
+source_words (origin.Sealed name value) = source_kind_word source_kind.Sealed ∷ name_word name ∷ bytes_word value ∷ []
+source_words origin.Part = source_kind_word source_kind.Part ∷ []
 
 -- the source, the uses, the check mode
 abbrev pub sourced_words : ImportRequest → List Word
@@ -206,23 +170,23 @@ abbrev pub crypt_words : CryptRequest → List Word
 crypt_words r = algorithm_word r.algorithm ∷ direction_word r.direction ∷ name_word r.key ∷ start_word r.start ∷ byte_word r.pad ∷ body_word r.body ∷ []
 
 abbrev pub pin_words : PinRequest → List Word
-pin_words (pin.Block request) = Exact (codes "pinblock") ∷ block_words request
+pin_words (pin.Block request) = command_verb_word command_verb.PinBlock ∷ block_words request
 -- no line spells these yet
 pin_words (pin.Check request) = []
 pin_words (pin.Extra request) = []
 
 abbrev pub command_words : Command → List Word
-command_words (command.GetPin rules) = Exact (codes "getpin") ∷ rules_words rules
-command_words (command.GetData rules) = Exact (codes "getdata") ∷ rules_words rules
-command_words (command.SecureKeyEntry rules) = Exact (codes "keyentry") ∷ part_words rules
-command_words (command.MaintainPin on) = Exact (codes "maintain") ∷ Exact (if on then codes "on" else codes "off") ∷ []
+command_words (command.GetPin rules) = command_verb_word command_verb.GetPin ∷ rules_words rules
+command_words (command.GetData rules) = command_verb_word command_verb.GetData ∷ rules_words rules
+command_words (command.SecureKeyEntry rules) = command_verb_word command_verb.KeyEntry ∷ part_words rules
+command_words (command.MaintainPin on) = command_verb_word command_verb.Maintain ∷ Exact (if on then codes "on" else codes "off") ∷ []
 command_words (command.Pin request) = pin_words request
-command_words (command.ImportKey request) = Exact (codes "import") ∷ import_words request
-command_words (command.DeleteKey name) = Exact (codes "delete") ∷ name_word name ∷ []
-command_words command.Init = Exact (codes "init") ∷ []
-command_words command.Reset = Exact (codes "reset") ∷ []
-command_words command.RsaImport = Exact (codes "rsa") ∷ []
-command_words (command.Crypt request) = Exact (codes "crypt") ∷ crypt_words request
+command_words (command.ImportKey request) = command_verb_word command_verb.Import ∷ import_words request
+command_words (command.DeleteKey name) = command_verb_word command_verb.Delete ∷ name_word name ∷ []
+command_words command.Init = command_verb_word command_verb.Init ∷ []
+command_words command.Reset = command_verb_word command_verb.Reset ∷ []
+command_words command.RsaImport = command_verb_word command_verb.Rsa ∷ []
+command_words (command.Crypt request) = command_verb_word command_verb.Crypt ∷ crypt_words request
 
 -- ---- steps
 
@@ -233,35 +197,35 @@ question_words question.Names = Exact (codes "names") ∷ []
 question_words (question.Reply id) = Exact (codes "reply") ∷ number_word id ∷ []
 
 abbrev pub step_words : Step → List Word
-step_words (step.Open s) = Exact (codes "open") ∷ session_word s ∷ []
-step_words (step.Close s) = Exact (codes "close") ∷ session_word s ∷ []
-step_words (step.Listen s classes) = Exact (codes "listen") ∷ session_word s ∷ classes_word classes ∷ []
-step_words (step.Lock s) = Exact (codes "lock") ∷ session_word s ∷ []
-step_words (step.Unlock s) = Exact (codes "unlock") ∷ session_word s ∷ []
-step_words (step.Submit s limit c) = Exact (codes "submit") ∷ session_word s ∷ number_word limit ∷ command_words c
-step_words (step.Cancel s id) = Exact (codes "cancel") ∷ session_word s ∷ number_word id ∷ []
-step_words step.Begin = Exact (codes "begin") ∷ []
-step_words step.Finish = Exact (codes "finish") ∷ []
-step_words (step.Press key) = Exact (codes "press") ∷ key_word key ∷ []
-step_words (step.Tick n) = Exact (codes "tick") ∷ number_word n ∷ []
-step_words (step.Ask s asked) = Exact (codes "ask") ∷ session_word s ∷ question_words asked
-step_words step.Off = Exact (codes "off") ∷ []
-step_words step.Boot = Exact (codes "boot") ∷ []
+step_words (step.Open s) = line_verb_word line_verb.Open ∷ session_word s ∷ []
+step_words (step.Close s) = line_verb_word line_verb.Close ∷ session_word s ∷ []
+step_words (step.Listen s classes) = line_verb_word line_verb.Listen ∷ session_word s ∷ classes_word classes ∷ []
+step_words (step.Lock s) = line_verb_word line_verb.Lock ∷ session_word s ∷ []
+step_words (step.Unlock s) = line_verb_word line_verb.Unlock ∷ session_word s ∷ []
+step_words (step.Submit s limit c) = line_verb_word line_verb.Submit ∷ session_word s ∷ number_word limit ∷ command_words c
+step_words (step.Cancel s id) = line_verb_word line_verb.Cancel ∷ session_word s ∷ number_word id ∷ []
+step_words step.Begin = line_verb_word line_verb.Begin ∷ []
+step_words step.Finish = line_verb_word line_verb.Finish ∷ []
+step_words (step.Press key) = line_verb_word line_verb.Press ∷ key_word key ∷ []
+step_words (step.Tick n) = line_verb_word line_verb.Tick ∷ number_word n ∷ []
+step_words (step.Ask s asked) = line_verb_word line_verb.Ask ∷ session_word s ∷ question_words asked
+step_words step.Off = line_verb_word line_verb.Off ∷ []
+step_words step.Boot = line_verb_word line_verb.Boot ∷ []
 
 -- ---- lines
 
 abbrev pub line_words : Line → List Word
-line_words line.Auto = Exact (codes "auto") ∷ []
+line_words line.Auto = line_verb_word line_verb.Auto ∷ []
 line_words (line.Do s) = step_words s
 
--- a line that is built: `auto`, or a step that the script has so far
-abbrev pub is_built : Line → Bool
-is_built line.Auto = true
-is_built (line.Do s) = is_scripted s
+-- `auto`, or a step that lines spell
+abbrev pub is_spelled : Line → Bool
+is_spelled line.Auto = true
+is_spelled (line.Do s) = is_line_today s
 
 -- the bytes, without their line feed, spell this line: its words with one space between two, and nothing else
 abbrev pub Spells : List ℕ → Line → Type 0
-Spells bytes l = IsTrue (is_built l) × Says (32 ∷ bytes) (line_words l)
+Spells bytes l = IsTrue (is_spelled l) × Says (32 ∷ bytes) (line_words l)
 
 -- ---- printed text
 
@@ -275,5 +239,5 @@ unless_masked masked s = if masked then None else Some s
 
 -- a step as a line shows it, or a press whose key is masked
 unfoldable pub shown_text : Option Step → List ℕ
-shown_text None = codes "press *"
+shown_text None = line_verb_text line_verb.Press ++ codes " *"
 shown_text (Some s) = step_text s

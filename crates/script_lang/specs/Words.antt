@@ -1,6 +1,31 @@
--- The words of a line, apart from the values that they spell.
-use Rattle.std.specs.Prelude.{Bool, IsTrue, List, None, Option, Some, [], not, if◌then◌else◌, map, nat_le, nat_lt, ℕ, ◌&&◌, ◌++◌, ◌+◌, ◌-◌, ◌==◌, ◌≡◌, ◌∷◌}
+-- The words of a line, and the tables of those that spell one of few values.
+use Rattle.std.specs.Prelude.{Bool, IsTrue, List, None, Option, Some, [], codes, false, not, true, if◌then◌else◌, map, nat_le, nat_lt, ℕ, ◌&&◌, ◌++◌, ◌+◌, ◌-◌, ◌==◌, ◌≡◌, ◌∷◌}
 use Rattle.std.specs.List.{list_all}
+use denote.Enum.Bare.{sameb}
+use mathlib.Core.Bool.{beq}
+use Rattle.pad_words.specs.contracts.Direction.{the_type as direction_type}
+use Rattle.pad_words.specs.declared.Direction.{Direction}
+use Rattle.pad_words.specs.declared.Direction.TheVariants as direction
+use Rattle.pad_steps.specs.contracts.commands.Algorithm.{the_type as algorithm_type}
+use Rattle.pad_steps.specs.contracts.commands.Form.{the_type as form_type}
+use Rattle.pad_steps.specs.contracts.commands.Verify.{the_type as verify_type}
+use Rattle.pad_steps.specs.declared.commands.Algorithm.{Algorithm}
+use Rattle.pad_steps.specs.declared.commands.Algorithm.TheVariants as algorithm
+use Rattle.pad_steps.specs.declared.commands.Form.{Form}
+use Rattle.pad_steps.specs.declared.commands.Form.TheVariants as forms
+use Rattle.pad_steps.specs.declared.commands.Verify.{Verify}
+use Rattle.pad_steps.specs.declared.commands.Verify.TheVariants as verify
+use Rattle.pad_steps.specs.declared.steps.Classes.{Classes}
+use Rattle.script_lang.specs.contracts.kinds.CommandVerb.{the_type as command_verb_type}
+use Rattle.script_lang.specs.contracts.kinds.LineVerb.{the_type as line_verb_type}
+use Rattle.script_lang.specs.contracts.kinds.SourceKind.{the_type as source_kind_type}
+use Rattle.script_lang.specs.declared.kinds.CommandVerb.{CommandVerb}
+use Rattle.script_lang.specs.declared.kinds.CommandVerb.TheVariants as command_verb
+use Rattle.script_lang.specs.declared.kinds.LineVerb.{LineVerb}
+use Rattle.script_lang.specs.declared.kinds.LineVerb.TheVariants as line_verb
+use Rattle.script_lang.specs.declared.kinds.SourceKind.{SourceKind}
+use Rattle.script_lang.specs.declared.kinds.SourceKind.TheVariants as source_kind
+use Rattle.spelled_words.specs.Tables.{word_of}
 
 -- a word: these bytes as they stand, or hexadecimal digits of these values, or bytes, a colon and digits
 pub data Word : Type 0 where
@@ -63,3 +88,125 @@ spaced (w ∷ ws) = 32 ∷ (word_text w ++ spaced ws)
 abbrev pub joined : List Word → List ℕ
 joined [] = []
 joined (w ∷ ws) = word_text w ++ spaced ws
+
+-- ---- tables of words
+
+-- the first words of lines
+abbrev pub line_verbs : List (LineVerb × List ℕ)
+line_verbs =
+    (line_verb.Auto, codes "auto") ∷
+    (line_verb.Open, codes "open") ∷
+    (line_verb.Close, codes "close") ∷
+    (line_verb.Listen, codes "listen") ∷
+    (line_verb.Lock, codes "lock") ∷
+    (line_verb.Unlock, codes "unlock") ∷
+    (line_verb.Submit, codes "submit") ∷
+    (line_verb.Cancel, codes "cancel") ∷
+    (line_verb.Begin, codes "begin") ∷
+    (line_verb.Finish, codes "finish") ∷
+    (line_verb.Press, codes "press") ∷
+    (line_verb.Tick, codes "tick") ∷
+    (line_verb.Ask, codes "ask") ∷
+    (line_verb.Off, codes "off") ∷
+    (line_verb.Boot, codes "boot") ∷ []
+
+unfoldable pub line_verb_text : LineVerb → List ℕ
+line_verb_text = word_of (sameb line_verb_type) line_verbs
+
+-- the first words of commands
+abbrev pub command_verbs : List (CommandVerb × List ℕ)
+command_verbs =
+    (command_verb.GetPin, codes "getpin") ∷
+    (command_verb.GetData, codes "getdata") ∷
+    (command_verb.KeyEntry, codes "keyentry") ∷
+    (command_verb.Maintain, codes "maintain") ∷
+    (command_verb.PinBlock, codes "pinblock") ∷
+    (command_verb.Import, codes "import") ∷
+    (command_verb.Delete, codes "delete") ∷
+    (command_verb.Init, codes "init") ∷
+    (command_verb.Reset, codes "reset") ∷
+    (command_verb.Rsa, codes "rsa") ∷
+    (command_verb.Crypt, codes "crypt") ∷ []
+
+unfoldable pub command_verb_text : CommandVerb → List ℕ
+command_verb_text = word_of (sameb command_verb_type) command_verbs
+
+-- the first words of the sources of imports
+abbrev pub source_kinds : List (SourceKind × List ℕ)
+source_kinds =
+    (source_kind.Clear, codes "clear") ∷
+    (source_kind.Sealed, codes "sealed") ∷
+    (source_kind.Part, codes "part") ∷ []
+
+unfoldable pub source_kind_text : SourceKind → List ℕ
+source_kind_text = word_of (sameb source_kind_type) source_kinds
+
+-- the equality of classes
+abbrev pub same_classes : Classes → Classes → Bool
+same_classes first second = beq first.service second.service && beq first.execute second.execute
+
+-- the words of the classes of events that a session hears
+abbrev pub classes_words : List (Classes × List ℕ)
+classes_words =
+    (record { service = false; execute = false }, codes "none") ∷
+    (record { service = true; execute = false }, codes "service") ∷
+    (record { service = false; execute = true }, codes "execute") ∷
+    (record { service = true; execute = true }, codes "both") ∷ []
+
+unfoldable pub classes_text : Classes → List ℕ
+classes_text = word_of same_classes classes_words
+
+-- the words of whether an entry ends by itself at its greatest length
+abbrev pub end_words : List (Bool × List ℕ)
+end_words =
+    (true, codes "auto") ∷
+    (false, codes "hold") ∷ []
+
+unfoldable pub end_text : Bool → List ℕ
+end_text = word_of beq end_words
+
+-- the words of check modes
+abbrev pub verify_words : List (Verify × List ℕ)
+verify_words =
+    (verify.Nothing, codes "none") ∷
+    (verify.Own, codes "self") ∷
+    (verify.Zero, codes "zero") ∷ []
+
+unfoldable pub verify_text : Verify → List ℕ
+verify_text = word_of (sameb verify_type) verify_words
+
+-- the words of the forms of a PIN block
+abbrev pub form_words : List (Form × List ℕ)
+form_words =
+    (forms.Iso0, codes "iso0") ∷
+    (forms.Iso1, codes "iso1") ∷
+    (forms.Iso2, codes "iso2") ∷
+    (forms.Iso3, codes "iso3") ∷
+    (forms.Iso4, codes "iso4") ∷
+    (forms.Ibm3624, codes "ibm3624") ∷
+    (forms.Diebold, codes "diebold") ∷
+    (forms.DieboldCo, codes "dieboldco") ∷ []
+
+unfoldable pub form_text : Form → List ℕ
+form_text = word_of (sameb form_type) form_words
+
+-- the words of algorithms
+abbrev pub algorithm_words : List (Algorithm × List ℕ)
+algorithm_words =
+    (algorithm.Ecb, codes "ecb") ∷
+    (algorithm.Cbc, codes "cbc") ∷
+    (algorithm.Cfb, codes "cfb") ∷
+    (algorithm.Mac, codes "mac") ∷
+    (algorithm.Retail, codes "retail") ∷ []
+
+unfoldable pub algorithm_text : Algorithm → List ℕ
+algorithm_text = word_of (sameb algorithm_type) algorithm_words
+
+-- the words of directions
+abbrev pub direction_words : List (Direction × List ℕ)
+direction_words =
+    (direction.Encrypt, codes "encrypt") ∷
+    (direction.Decrypt, codes "decrypt") ∷ []
+
+unfoldable pub direction_text : Direction → List ℕ
+direction_text = word_of (sameb direction_type) direction_words

@@ -4,13 +4,14 @@ ghost use Rattle.script_lang.specs.declared.kinds.LineFault.TheVariants.{NoMemor
 ghost use Rattle.script_lang.specs.Reading.{read_rules, read_pinblock, read_sourced, read_import, read_crypt, read_command, Gives};
 
 use crate::crypt_fields::{read_body, read_start};
-use crate::cutting::{ended, is, next_word};
+use crate::cutting::{ended, next_word};
 use crate::digit_fields::{
     read_byte, read_bytes, read_mask, read_nibble, read_nibbles_or_dash, read_uses,
 };
 use crate::fields::read_number;
-use crate::kinds::LineFault;
+use crate::kinds::{CommandVerb, LineFault, SourceKind};
 use crate::name_fields::{read_name, read_optional_block, read_optional_name};
+use crate::verb_fields::{read_command_verb, read_source_kind};
 use crate::word_fields::{read_algorithm, read_direction, read_end, read_form, read_verify};
 use pad_steps::{
     BlockRequest, Command, CryptRequest, EntryRules, ImportRequest, ImportSource, PinRequest,
@@ -111,18 +112,21 @@ fn read_import(alloc: Global, rest: &[u8]) -> Result<ImportRequest, LineFault>
     let (word, rest) = present(next_word(rest))?;
     let name = present(read_name(word))?;
     let (word, rest) = present(next_word(rest))?;
-    if is(word, "clear") {
-        let (word, rest) = present(next_word(rest))?;
-        let value = read_bytes(alloc, 1, MOST_KEY_BYTES, word)?;
-        present(read_sourced(name, ImportSource::Clear(value), rest))
-    } else if is(word, "sealed") {
-        let (word, rest) = present(next_word(rest))?;
-        let key = present(read_name(word))?;
-        let (word, rest) = present(next_word(rest))?;
-        let value = read_bytes(alloc, 1, MOST_KEY_BYTES, word)?;
-        present(read_sourced(name, ImportSource::Sealed(key, value), rest))
-    } else {
-        Err(LineFault::Outside)
+    match present(read_source_kind(word))? {
+        SourceKind::Clear => {
+            let (word, rest) = present(next_word(rest))?;
+            let value = read_bytes(alloc, 1, MOST_KEY_BYTES, word)?;
+            present(read_sourced(name, ImportSource::Clear(value), rest))
+        }
+        SourceKind::Sealed => {
+            let (word, rest) = present(next_word(rest))?;
+            let key = present(read_name(word))?;
+            let (word, rest) = present(next_word(rest))?;
+            let value = read_bytes(alloc, 1, MOST_KEY_BYTES, word)?;
+            present(read_sourced(name, ImportSource::Sealed(key, value), rest))
+        }
+        // no line says a part yet
+        SourceKind::Part => Err(LineFault::Outside),
     }
 }
 
@@ -159,28 +163,35 @@ fn read_crypt(alloc: Global, rest: &[u8]) -> Result<CryptRequest, LineFault>
 pub fn read_command(alloc: Global, rest: &[u8]) -> Result<Command, LineFault>
     ensures { Gives result (read_command rest.now) }
 {
-    let (verb, rest) = present(next_word(rest))?;
-    if is(verb, "getpin") {
-        let rules = present(read_rules(rest))?;
-        Ok(Command::GetPin(rules))
-    } else if is(verb, "pinblock") {
-        let request = present(read_pinblock(rest))?;
-        Ok(Command::Pin(PinRequest::Block(request)))
-    } else if is(verb, "import") {
-        let request = read_import(alloc, rest)?;
-        Ok(Command::ImportKey(request))
-    } else if is(verb, "crypt") {
-        let request = read_crypt(alloc, rest)?;
-        Ok(Command::Crypt(request))
-    } else if is(verb, "delete") {
-        let (word, rest) = present(next_word(rest))?;
-        let name = present(read_name(word))?;
-        present(ended(rest))?;
-        Ok(Command::DeleteKey(name))
-    } else if is(verb, "rsa") {
-        present(ended(rest))?;
-        Ok(Command::RsaImport)
-    } else {
-        Err(LineFault::Outside)
+    let (word, rest) = present(next_word(rest))?;
+    match present(read_command_verb(word))? {
+        CommandVerb::GetPin => {
+            let rules = present(read_rules(rest))?;
+            Ok(Command::GetPin(rules))
+        }
+        CommandVerb::PinBlock => {
+            let request = present(read_pinblock(rest))?;
+            Ok(Command::Pin(PinRequest::Block(request)))
+        }
+        CommandVerb::Import => {
+            let request = read_import(alloc, rest)?;
+            Ok(Command::ImportKey(request))
+        }
+        CommandVerb::Crypt => {
+            let request = read_crypt(alloc, rest)?;
+            Ok(Command::Crypt(request))
+        }
+        CommandVerb::Delete => {
+            let (word, rest) = present(next_word(rest))?;
+            let name = present(read_name(word))?;
+            present(ended(rest))?;
+            Ok(Command::DeleteKey(name))
+        }
+        CommandVerb::Rsa => {
+            present(ended(rest))?;
+            Ok(Command::RsaImport)
+        }
+        // no line says another command yet
+        _ => Err(LineFault::Outside),
     }
 }

@@ -1,10 +1,8 @@
-//! Decimal numbers, sessions and keys by their words.
+//! Decimal numbers and sessions by their words.
 ghost use Rattle.std.specs.Prelude.{◌≡◌, ◌≤◌, ◌<◌, length, IfSome};
-ghost use Rattle.script_lang.specs.Reading.{decimal_value, decimal_number, has_plain_front, read_number, read_session, read_figure, read_key};
+ghost use Rattle.script_lang.specs.Reading.{decimal_value, decimal_number, has_plain_front, read_number, read_session};
 
-use crate::cutting::is;
-use key_source::Key;
-use pad_words::{Digit, Session};
+use pad_words::Session;
 
 // the value of a decimal digit
 fn decimal_value(c: u8) -> Option<u8>
@@ -67,44 +65,4 @@ pub fn read_session(word: &[u8]) -> Option<Session>
 {
     let n = read_number(1, 16, word)?;
     Session::new(n as u8)
-}
-
-// the key of one byte: a digit, or A to F
-#[tactic(auto, unfolding(crate::specs::Reading::read_figure))]
-fn read_figure(c: u8) -> Option<Key>
-    ensures { result ≡ read_figure c }
-{
-    match c {
-        b'0'..=b'9' => {
-            let digit = Digit::new(c - b'0')?;
-            Some(Key::Digit(digit))
-        }
-        b'A'..=b'F' => Some(Key::Hex(c - b'A' + 10)),
-        _ => None,
-    }
-}
-
-// a key by its word
-#[tactic(auto, unfolding(crate::specs::Reading::read_key))]
-pub fn read_key(word: &[u8]) -> Option<Key>
-    ensures { result ≡ read_key word.now }
-{
-    if word.len() == 1 {
-        read_figure(word[0])
-    } else if is(word, "enter") {
-        Some(Key::Enter)
-    } else if is(word, "cancel") {
-        Some(Key::Cancel)
-    } else if is(word, "clear") {
-        Some(Key::Clear)
-    } else if is(word, "back") {
-        Some(Key::Backspace)
-    } else if is(word, "help") {
-        Some(Key::Help)
-    } else if word.len() >= 3 && is(&word[..3], "fdk") {
-        let n = read_number(1, 32, &word[3..])?;
-        Some(Key::Fdk(n as u8))
-    } else {
-        None
-    }
 }

@@ -13,6 +13,7 @@ mod name_fields;
 mod put_commands;
 mod put_fields;
 mod reading;
+mod verb_fields;
 mod word_fields;
 pub mod writing;
 

@@ -1,20 +1,28 @@
 //! The words of a command, a space before each. After want of memory a part of the text may stand.
-ghost use Rattle.std.specs.Prelude.{◌≡◌, ◌++◌, ◌<◌, OnOk, IsTrue};
-ghost use Rattle.pad_steps.specs.Formed.{is_well_formed_command};
-ghost use Rattle.script_lang.specs.Words.{spaced};
+ghost use Rattle.std.specs.Prelude.{◌≡◌, ◌++◌, ◌∷◌, ◌<◌, OnOk, IsTrue};
+ghost use Rattle.pad_steps.specs.Today.{is_command_today};
+ghost use Rattle.script_lang.specs.Words.{end_text, spaced};
 ghost use Rattle.script_lang.specs.Spelling.{rules_words, block_words, source_words, import_words, crypt_words, command_words};
 
+use crate::kinds::{CommandVerb, SourceKind};
 use crate::put_fields::{
-    put_algorithm, put_body, put_byte, put_bytes, put_direction, put_end, put_form, put_mask,
-    put_name, put_nibble, put_nibbles, put_number, put_optional_block, put_optional_name,
-    put_start, put_uses, put_verify,
+    put_body, put_byte, put_bytes, put_mask, put_name, put_nibble, put_nibbles, put_number,
+    put_optional_block, put_optional_name, put_start, put_uses, put_word,
 };
-use crate::writing::write_word;
+use crate::verb_fields::{command_verb_word, source_kind_word};
+use crate::word_fields::{algorithm_word, direction_word, end_word, form_word, verify_word};
 use pad_steps::{
     BlockRequest, Command, CryptRequest, EntryRules, ImportRequest, ImportSource, PinRequest,
 };
 use pad_words::{NoMemory, Octets};
 use std::alloc::Global;
+
+// a space, and `auto` or `hold`
+fn put_end(auto_end: bool, text: &mut Octets) -> Result<(), NoMemory>
+    ensures { OnOk result (text.new ≡ text.old ++ 32 ∷ end_text auto_end) }
+{
+    put_word(end_word(auto_end), text)
+}
 
 // the rules of an entry, a space before each word
 fn put_rules(alloc: Global, rules: &EntryRules, text: &mut Octets) -> Result<(), NoMemory>
@@ -32,7 +40,7 @@ fn put_block(request: &BlockRequest, text: &mut Octets) -> Result<(), NoMemory>
     requires { request.now.pad < 16 }
     ensures { OnOk result (text.new ≡ text.old ++ spaced (block_words request.now)) }
 {
-    put_form(request.form, text)?;
+    put_word(form_word(request.form), text)?;
     put_name(&request.key, text)?;
     put_optional_name(&request.second, text)?;
     put_optional_block(&request.xor, text)?;
@@ -46,15 +54,15 @@ fn put_source(source: &ImportSource, text: &mut Octets) -> Result<(), NoMemory>
 {
     match source {
         ImportSource::Clear(value) => {
-            write_word(" clear", text)?;
+            put_word(source_kind_word(SourceKind::Clear), text)?;
             put_bytes(value.items(), text)
         }
         ImportSource::Sealed(name, value) => {
-            write_word(" sealed", text)?;
+            put_word(source_kind_word(SourceKind::Sealed), text)?;
             put_name(name, text)?;
             put_bytes(value.items(), text)
         }
-        ImportSource::Part => write_word(" part", text),
+        ImportSource::Part => put_word(source_kind_word(SourceKind::Part), text),
     }
 }
 
@@ -65,15 +73,15 @@ fn put_import(request: &ImportRequest, text: &mut Octets) -> Result<(), NoMemory
     put_name(&request.name, text)?;
     put_source(&request.source, text)?;
     put_uses(request.uses, text)?;
-    put_verify(request.verify, text)
+    put_word(verify_word(request.verify), text)
 }
 
 // the algorithm, the direction, the key, the start value, the padding byte and the bytes
 fn put_crypt(request: &CryptRequest, text: &mut Octets) -> Result<(), NoMemory>
     ensures { OnOk result (text.new ≡ text.old ++ spaced (crypt_words request.now)) }
 {
-    put_algorithm(request.algorithm, text)?;
-    put_direction(request.direction, text)?;
+    put_word(algorithm_word(request.algorithm), text)?;
+    put_word(direction_word(request.direction), text)?;
     put_name(&request.key, text)?;
     put_start(&request.start, text)?;
     put_byte(request.pad, text)?;
@@ -82,32 +90,32 @@ fn put_crypt(request: &CryptRequest, text: &mut Octets) -> Result<(), NoMemory>
 
 // the command, a space before each word
 pub fn put_command(alloc: Global, command: &Command, text: &mut Octets) -> Result<(), NoMemory>
-    requires { IsTrue (is_well_formed_command command.now) }
+    requires { IsTrue (is_command_today command.now) }
     ensures { OnOk result (text.new ≡ text.old ++ spaced (command_words command.now)) }
 {
     match command {
         Command::GetPin(rules) => {
-            write_word(" getpin", text)?;
+            put_word(command_verb_word(CommandVerb::GetPin), text)?;
             put_rules(alloc, rules, text)?;
             Ok(())
         }
         Command::Pin(PinRequest::Block(request)) => {
-            write_word(" pinblock", text)?;
+            put_word(command_verb_word(CommandVerb::PinBlock), text)?;
             put_block(request, text)
         }
         Command::ImportKey(request) => {
-            write_word(" import", text)?;
+            put_word(command_verb_word(CommandVerb::Import), text)?;
             put_import(request, text)
         }
         Command::Crypt(request) => {
-            write_word(" crypt", text)?;
+            put_word(command_verb_word(CommandVerb::Crypt), text)?;
             put_crypt(request, text)
         }
         Command::DeleteKey(name) => {
-            write_word(" delete", text)?;
+            put_word(command_verb_word(CommandVerb::Delete), text)?;
             put_name(name, text)
         }
-        Command::RsaImport => write_word(" rsa", text),
+        Command::RsaImport => put_word(command_verb_word(CommandVerb::Rsa), text),
         // no line spells another command yet
         _ => unreachable!(),
     }

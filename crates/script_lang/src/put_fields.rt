@@ -3,12 +3,12 @@ ghost use Rattle.std.specs.Prelude.{◌≡◌, ◌++◌, ◌∷◌, ◌<◌, All
 ghost use Rattle.std.specs.Fmt.{decimal};
 ghost use Rattle.pad_words.specs.Bytes.{unpacked};
 ghost use Rattle.script_lang.specs.Words.{hex_digit, word_text};
-ghost use Rattle.script_lang.specs.Spelling.{four_values, mask_word, end_text, verify_text, form_text, algorithm_text, direction_text, name_word, optional_word, bytes_word, block_word, nibble_word, nibbles_word, uses_word, start_word, byte_word, body_word};
+ghost use Rattle.script_lang.specs.Spelling.{four_values, mask_word, name_word, optional_word, bytes_word, block_word, nibble_word, nibbles_word, uses_word, start_word, byte_word, body_word};
 
 use crate::writing::{hex_digit, write_number, write_word};
 use key_source::Mask;
-use pad_steps::{Algorithm, Form, Start, Verify};
-use pad_words::{Block, Direction, KeyName, Nibbles, NoMemory, Octets, Session};
+use pad_steps::Start;
+use pad_words::{Block, KeyName, Nibbles, NoMemory, Octets, Session};
 use std::alloc::Global;
 
 // a space, and the number
@@ -49,69 +49,11 @@ pub fn put_mask(mask: &Mask, text: &mut Octets) -> Result<(), NoMemory>
     Ok(())
 }
 
-// a space, and `auto` or `hold`
-#[tactic(auto, unfolding(crate::specs::Spelling::end_text))]
-pub fn put_end(auto_end: bool, text: &mut Octets) -> Result<(), NoMemory>
-    ensures { OnOk result (text.new ≡ text.old ++ 32 ∷ end_text auto_end) }
+// a space, and this word
+pub fn put_word(word: &str, text: &mut Octets) -> Result<(), NoMemory>
+    ensures { OnOk result (text.new ≡ text.old ++ 32 ∷ word.now) }
 {
-    write_word(if auto_end { " auto" } else { " hold" }, text)
-}
-
-// a space, and the check mode of an import
-#[tactic(auto, unfolding(crate::specs::Spelling::verify_text))]
-pub fn put_verify(verify: Verify, text: &mut Octets) -> Result<(), NoMemory>
-    ensures { OnOk result (text.new ≡ text.old ++ 32 ∷ verify_text verify) }
-{
-    let word = match verify {
-        Verify::Nothing => " none",
-        Verify::Own => " self",
-        Verify::Zero => " zero",
-    };
-    write_word(word, text)
-}
-
-// a space, and the form of a PIN block
-#[tactic(auto, unfolding(crate::specs::Spelling::form_text))]
-pub fn put_form(form: Form, text: &mut Octets) -> Result<(), NoMemory>
-    ensures { OnOk result (text.new ≡ text.old ++ 32 ∷ form_text form) }
-{
-    let word = match form {
-        Form::Iso0 => " iso0",
-        Form::Iso1 => " iso1",
-        Form::Iso2 => " iso2",
-        Form::Iso3 => " iso3",
-        Form::Iso4 => " iso4",
-        Form::Ibm3624 => " ibm3624",
-        Form::Diebold => " diebold",
-        Form::DieboldCo => " dieboldco",
-    };
-    write_word(word, text)
-}
-
-// a space, and the algorithm of a crypt command
-#[tactic(auto, unfolding(crate::specs::Spelling::algorithm_text))]
-pub fn put_algorithm(algorithm: Algorithm, text: &mut Octets) -> Result<(), NoMemory>
-    ensures { OnOk result (text.new ≡ text.old ++ 32 ∷ algorithm_text algorithm) }
-{
-    let word = match algorithm {
-        Algorithm::Ecb => " ecb",
-        Algorithm::Cbc => " cbc",
-        Algorithm::Cfb => " cfb",
-        Algorithm::Mac => " mac",
-        Algorithm::Retail => " retail",
-    };
-    write_word(word, text)
-}
-
-// a space, and the direction
-#[tactic(auto, unfolding(crate::specs::Spelling::direction_text))]
-pub fn put_direction(direction: Direction, text: &mut Octets) -> Result<(), NoMemory>
-    ensures { OnOk result (text.new ≡ text.old ++ 32 ∷ direction_text direction) }
-{
-    let word = match direction {
-        Direction::Encrypt => " encrypt",
-        Direction::Decrypt => " decrypt",
-    };
+    text.push(b' ')?;
     write_word(word, text)
 }
 

@@ -1,72 +1,81 @@
 //! Lines read from left to right, word by word.
 ghost use Rattle.std.specs.Prelude.{◌≡◌, IfOk, Err};
-ghost use Rattle.script_lang.specs.Reading.{line_rows, choose, line_of, Gives};
-ghost use Rattle.script_lang.specs.Spelling.{is_built, Spells};
+ghost use Rattle.script_lang.specs.Reading.{line_after, line_of, Gives};
+ghost use Rattle.script_lang.specs.Spelling.{is_spelled, Spells};
 ghost use Rattle.script_lang.specs.declared.kinds.Line.{Line};
 ghost use Rattle.script_lang.specs.declared.kinds.LineFault.TheVariants.{Outside};
 
 use crate::commands::{present, read_command};
-use crate::cutting::{ended, is, next_word, word_len};
-use crate::fields::{read_key, read_number, read_session};
-use crate::kinds::{Line, LineFault};
+use crate::cutting::{ended, next_word, word_len};
+use crate::fields::{read_number, read_session};
+use crate::kinds::{Line, LineFault, LineVerb};
+use crate::verb_fields::read_line_verb;
 use crate::word_fields::read_classes;
+use key_source::Key;
 use pad_steps::Step;
 use std::alloc::Global;
 
-// the line that begins with this word
-fn read_row(alloc: Global, verb: &[u8], rest: &[u8]) -> Result<Line, LineFault>
-    ensures { Gives result (choose line_rows verb.now rest.now) }
+// the line that begins with this verb
+fn read_row(alloc: Global, verb: LineVerb, rest: &[u8]) -> Result<Line, LineFault>
+    ensures { Gives result (line_after verb rest.now) }
 {
-    if is(verb, "open") {
-        let (word, rest) = present(next_word(rest))?;
-        let session = present(read_session(word))?;
-        present(ended(rest))?;
-        Ok(Line::Do(Step::Open(session)))
-    } else if is(verb, "listen") {
-        let (word, rest) = present(next_word(rest))?;
-        let session = present(read_session(word))?;
-        let (word, rest) = present(next_word(rest))?;
-        let classes = present(read_classes(word))?;
-        present(ended(rest))?;
-        Ok(Line::Do(Step::Listen(session, classes)))
-    } else if is(verb, "submit") {
-        let (word, rest) = present(next_word(rest))?;
-        let session = present(read_session(word))?;
-        let (word, rest) = present(next_word(rest))?;
-        let limit = present(read_number(0, 1_000_000, word))?;
-        let command = read_command(alloc, rest)?;
-        Ok(Line::Do(Step::Submit(session, limit, command)))
-    } else if is(verb, "press") {
-        let (word, rest) = present(next_word(rest))?;
-        let key = present(read_key(word))?;
-        present(ended(rest))?;
-        Ok(Line::Do(Step::Press(key)))
-    } else if is(verb, "auto") {
-        present(ended(rest))?;
-        Ok(Line::Auto)
-    } else {
-        Err(LineFault::Outside)
+    match verb {
+        LineVerb::Auto => {
+            present(ended(rest))?;
+            Ok(Line::Auto)
+        }
+        LineVerb::Open => {
+            let (word, rest) = present(next_word(rest))?;
+            let session = present(read_session(word))?;
+            present(ended(rest))?;
+            Ok(Line::Do(Step::Open(session)))
+        }
+        LineVerb::Listen => {
+            let (word, rest) = present(next_word(rest))?;
+            let session = present(read_session(word))?;
+            let (word, rest) = present(next_word(rest))?;
+            let classes = present(read_classes(word))?;
+            present(ended(rest))?;
+            Ok(Line::Do(Step::Listen(session, classes)))
+        }
+        LineVerb::Submit => {
+            let (word, rest) = present(next_word(rest))?;
+            let session = present(read_session(word))?;
+            let (word, rest) = present(next_word(rest))?;
+            let limit = present(read_number(0, 1_000_000, word))?;
+            let command = read_command(alloc, rest)?;
+            Ok(Line::Do(Step::Submit(session, limit, command)))
+        }
+        LineVerb::Press => {
+            let (word, rest) = present(next_word(rest))?;
+            let key = present(Key::read(word))?;
+            present(ended(rest))?;
+            Ok(Line::Do(Step::Press(key)))
+        }
+        // no line is read by another verb yet
+        _ => Err(LineFault::Outside),
     }
 }
 
-// whether the line is `auto`, or a step that the script has so far
-fn is_built(line: &Line) -> bool
-    ensures { result ≡ is_built line.now }
+// whether the line is `auto`, or a step that a line of the script spells
+fn is_spelled(line: &Line) -> bool
+    ensures { result ≡ is_spelled line.now }
 {
     match line {
         Line::Auto => true,
-        Line::Do(step) => step.is_scripted(),
+        Line::Do(step) => step.is_line_today(),
     }
 }
 
-// the line that these bytes spell, if it is built
+// the line that these bytes spell, if its step is one that lines spell
 #[tactic(auto, unfolding(crate::specs::Reading::line_of))]
-fn read_built(alloc: Global, bytes: &[u8]) -> Result<Line, LineFault>
+fn read_spelled(alloc: Global, bytes: &[u8]) -> Result<Line, LineFault>
     ensures { Gives result (line_of bytes.now) }
 {
-    let (verb, rest) = bytes.split_at(word_len(bytes));
+    let (word, rest) = bytes.split_at(word_len(bytes));
+    let verb = present(read_line_verb(word))?;
     let line = read_row(alloc, verb, rest)?;
-    if is_built(&line) {
+    if is_spelled(&line) {
         Ok(line)
     } else {
         Err(LineFault::Outside)
@@ -80,5 +89,5 @@ pub fn read_line(alloc: Global, line: &[u8]) -> Result<Line, LineFault>
     ensures outside { result ≡ Err Outside → (l : Line) → Spells line.now l → ⊥ }
     ensures exact { Gives result (line_of line.now) }
 {
-    read_built(alloc, line)
+    read_spelled(alloc, line)
 }

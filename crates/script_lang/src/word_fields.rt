@@ -1,116 +1,173 @@
-//! Words of few values.
+//! Tables of words, each value beside its word, and what they read and write.
 ghost use Rattle.std.specs.Prelude.{◌≡◌};
 ghost use Rattle.script_lang.specs.Reading.{read_end, read_classes, read_verify, read_form, read_algorithm, read_direction};
+ghost use Rattle.script_lang.specs.Words.{end_text, classes_text, verify_text, form_text, algorithm_text, direction_text};
 
-use crate::cutting::is;
 use pad_steps::{Algorithm, Classes, Form, Verify};
 use pad_words::Direction;
+use spelled_words::{Spelled, value_of, word_of};
 
 // whether an entry ends by itself at its greatest length
+const ENDS: [Spelled<bool>; 2] = [Spelled(true, "auto"), Spelled(false, "hold")];
+
+// the end that this word spells
 #[tactic(auto, unfolding(crate::specs::Reading::read_end))]
 pub fn read_end(word: &[u8]) -> Option<bool>
     ensures { result ≡ read_end word.now }
 {
-    if is(word, "auto") {
-        Some(true)
-    } else if is(word, "hold") {
-        Some(false)
-    } else {
-        None
-    }
+    value_of(&ENDS, word)
+}
+
+// the word of an end
+#[tactic(auto, unfolding(crate::specs::Words::end_text))]
+pub fn end_word(auto_end: bool) -> &'static str
+    ensures { result.now ≡ end_text auto_end }
+{
+    word_of(&ENDS, auto_end)
 }
 
 // the classes of events that a session hears
+const CLASSES: [Spelled<Classes>; 4] = [
+    Spelled(
+        Classes {
+            service: false,
+            execute: false,
+        },
+        "none",
+    ),
+    Spelled(
+        Classes {
+            service: true,
+            execute: false,
+        },
+        "service",
+    ),
+    Spelled(
+        Classes {
+            service: false,
+            execute: true,
+        },
+        "execute",
+    ),
+    Spelled(
+        Classes {
+            service: true,
+            execute: true,
+        },
+        "both",
+    ),
+];
+
+// the classes that this word spells
 #[tactic(auto, unfolding(crate::specs::Reading::read_classes))]
 pub fn read_classes(word: &[u8]) -> Option<Classes>
     ensures { result ≡ read_classes word.now }
 {
-    let (service, execute) = if is(word, "none") {
-        (false, false)
-    } else if is(word, "service") {
-        (true, false)
-    } else if is(word, "execute") {
-        (false, true)
-    } else if is(word, "both") {
-        (true, true)
-    } else {
-        return None;
-    };
-    Some(Classes { service, execute })
+    value_of(&CLASSES, word)
 }
 
-// the check mode of an import
+// the word of classes
+#[tactic(auto, unfolding(crate::specs::Words::classes_text))]
+pub fn classes_word(classes: Classes) -> &'static str
+    ensures { result.now ≡ classes_text classes }
+{
+    word_of(&CLASSES, classes)
+}
+
+// check modes of an import
+const CHECK_MODES: [Spelled<Verify>; 3] = [
+    Spelled(Verify::Nothing, "none"),
+    Spelled(Verify::Own, "self"),
+    Spelled(Verify::Zero, "zero"),
+];
+
+// the check mode that this word spells
 #[tactic(auto, unfolding(crate::specs::Reading::read_verify))]
 pub fn read_verify(word: &[u8]) -> Option<Verify>
     ensures { result ≡ read_verify word.now }
 {
-    if is(word, "none") {
-        Some(Verify::Nothing)
-    } else if is(word, "self") {
-        Some(Verify::Own)
-    } else if is(word, "zero") {
-        Some(Verify::Zero)
-    } else {
-        None
-    }
+    value_of(&CHECK_MODES, word)
 }
 
-// the form of a PIN block
+// the word of a check mode
+#[tactic(auto, unfolding(crate::specs::Words::verify_text))]
+pub fn verify_word(mode: Verify) -> &'static str
+    ensures { result.now ≡ verify_text mode }
+{
+    word_of(&CHECK_MODES, mode)
+}
+
+// forms of a PIN block
+const FORMS: [Spelled<Form>; 8] = [
+    Spelled(Form::Iso0, "iso0"),
+    Spelled(Form::Iso1, "iso1"),
+    Spelled(Form::Iso2, "iso2"),
+    Spelled(Form::Iso3, "iso3"),
+    Spelled(Form::Iso4, "iso4"),
+    Spelled(Form::Ibm3624, "ibm3624"),
+    Spelled(Form::Diebold, "diebold"),
+    Spelled(Form::DieboldCo, "dieboldco"),
+];
+
+// the form that this word spells
 #[tactic(auto, unfolding(crate::specs::Reading::read_form))]
 pub fn read_form(word: &[u8]) -> Option<Form>
     ensures { result ≡ read_form word.now }
 {
-    if is(word, "iso0") {
-        Some(Form::Iso0)
-    } else if is(word, "iso1") {
-        Some(Form::Iso1)
-    } else if is(word, "iso2") {
-        Some(Form::Iso2)
-    } else if is(word, "iso3") {
-        Some(Form::Iso3)
-    } else if is(word, "iso4") {
-        Some(Form::Iso4)
-    } else if is(word, "ibm3624") {
-        Some(Form::Ibm3624)
-    } else if is(word, "diebold") {
-        Some(Form::Diebold)
-    } else if is(word, "dieboldco") {
-        Some(Form::DieboldCo)
-    } else {
-        None
-    }
+    value_of(&FORMS, word)
 }
 
-// the algorithm of a crypt command
+// the word of a form
+#[tactic(auto, unfolding(crate::specs::Words::form_text))]
+pub fn form_word(form: Form) -> &'static str
+    ensures { result.now ≡ form_text form }
+{
+    word_of(&FORMS, form)
+}
+
+// algorithms of a crypt command
+const ALGORITHMS: [Spelled<Algorithm>; 5] = [
+    Spelled(Algorithm::Ecb, "ecb"),
+    Spelled(Algorithm::Cbc, "cbc"),
+    Spelled(Algorithm::Cfb, "cfb"),
+    Spelled(Algorithm::Mac, "mac"),
+    Spelled(Algorithm::Retail, "retail"),
+];
+
+// the algorithm that this word spells
 #[tactic(auto, unfolding(crate::specs::Reading::read_algorithm))]
 pub fn read_algorithm(word: &[u8]) -> Option<Algorithm>
     ensures { result ≡ read_algorithm word.now }
 {
-    if is(word, "ecb") {
-        Some(Algorithm::Ecb)
-    } else if is(word, "cbc") {
-        Some(Algorithm::Cbc)
-    } else if is(word, "cfb") {
-        Some(Algorithm::Cfb)
-    } else if is(word, "mac") {
-        Some(Algorithm::Mac)
-    } else if is(word, "retail") {
-        Some(Algorithm::Retail)
-    } else {
-        None
-    }
+    value_of(&ALGORITHMS, word)
 }
 
-// whether to encrypt or to decrypt
+// the word of an algorithm
+#[tactic(auto, unfolding(crate::specs::Words::algorithm_text))]
+pub fn algorithm_word(algorithm: Algorithm) -> &'static str
+    ensures { result.now ≡ algorithm_text algorithm }
+{
+    word_of(&ALGORITHMS, algorithm)
+}
+
+// directions of a crypt command
+const DIRECTIONS: [Spelled<Direction>; 2] = [
+    Spelled(Direction::Encrypt, "encrypt"),
+    Spelled(Direction::Decrypt, "decrypt"),
+];
+
+// the direction that this word spells
 #[tactic(auto, unfolding(crate::specs::Reading::read_direction))]
 pub fn read_direction(word: &[u8]) -> Option<Direction>
     ensures { result ≡ read_direction word.now }
 {
-    if is(word, "encrypt") {
-        Some(Direction::Encrypt)
-    } else if is(word, "decrypt") {
-        Some(Direction::Decrypt)
-    } else {
-        None
-    }
+    value_of(&DIRECTIONS, word)
+}
+
+// the word of a direction
+#[tactic(auto, unfolding(crate::specs::Words::direction_text))]
+pub fn direction_word(direction: Direction) -> &'static str
+    ensures { result.now ≡ direction_text direction }
+{
+    word_of(&DIRECTIONS, direction)
 }

@@ -4,7 +4,7 @@ use Rattle.pad_steps.specs.declared.answers.Event.{Event}
 use Rattle.pad_steps.specs.declared.answers.Event.TheVariants as event
 use Rattle.pad_steps.specs.declared.answers.Shown.{Shown}
 use Rattle.pad_steps.specs.declared.answers.Shown.TheVariants as shown
-use Rattle.script_lang.specs.Spelling.{key_text}
+use Rattle.key_source.specs.KeyWords.{key_text}
 use Rattle.transcript.specs.Refusals.{refusal_text}
 
 -- the word of a key, or a star where the key must not be told

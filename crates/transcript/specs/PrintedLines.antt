@@ -34,6 +34,10 @@ line_text l = codes "> " ++ shown_text l.shown ++ disk_word_text l.word l.fate +
 abbrev pub lines_text : List Line → List ℕ
 lines_text lines = flat_map line_text lines
 
+-- what is printed of a step as it is shown
+abbrev pub line_of_shown : Option Step → DiskWord → Option Fate → List Out → Line
+line_of_shown shown word fate outs = record { shown = shown; word = word; fate = fate; outs = outs }
+
 -- what is printed of a step; a masked press does not keep its key
 abbrev pub line_of_step : Step → Bool → DiskWord → Option Fate → List Out → Line
-line_of_step step masked word fate outs = record { shown = unless_masked masked step; word = word; fate = fate; outs = outs }
+line_of_step step masked word fate outs = line_of_shown (unless_masked masked step) word fate outs

@@ -7,7 +7,7 @@ use Rattle.pad_steps.specs.declared.answers.StatusView.{StatusView}
 use Rattle.pad_steps.specs.declared.answers.Told.{Told}
 use Rattle.pad_steps.specs.declared.answers.Told.TheVariants as told
 use Rattle.pad_words.specs.declared.numbers.Session.{Session}
-use Rattle.script_lang.specs.Spelling.{classes_text}
+use Rattle.script_lang.specs.Words.{classes_text}
 use Rattle.transcript.specs.Refusals.{refusal_text}
 use Rattle.transcript.specs.Replies.{reply_text}
 use Rattle.transcript.specs.Values.{yes_no_text}

@@ -26,6 +26,7 @@ answer_text (answer.Entered n c) = codes "OK entered " ++ decimal n ++ codes " "
 answer_text (answer.Figures digits c) = codes "OK figures " ++ digits_text digits ++ codes " " ++ completion_text c
 answer_text (answer.Part n c check) = codes "OK part " ++ decimal n ++ codes " " ++ completion_text c ++ codes " " ++ check_text check
 answer_text (answer.Block block) = codes "OK block " ++ encode_upper block.0
+answer_text (answer.Wide left right) = codes "OK block " ++ encode_upper left.0 ++ encode_upper right.0
 answer_text (answer.Checked holds) = codes "OK check " ++ yes_no_text holds
 answer_text (answer.Crypt bytes) = codes "OK crypt " ++ encode_upper bytes
 answer_text (answer.Mac block) = codes "OK mac " ++ encode_upper block.0

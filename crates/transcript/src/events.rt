@@ -9,12 +9,12 @@ use script_lang::writing::{write_key, write_word};
 use std::alloc::Global;
 
 #[tactic(auto, unfolding(crate::specs::Events::shown_key_text))]
-fn put_shown_key(alloc: Global, shown: &Shown, text: &mut Octets) -> Result<(), NoMemory>
+fn put_shown_key(shown: &Shown, text: &mut Octets) -> Result<(), NoMemory>
     ensures { OnOk result (text.new ≡ text.old ++ shown_key_text shown.now) }
 {
     match shown {
         Shown::Masked => write_word("*", text),
-        Shown::Plain(key) => write_key(alloc, *key, text),
+        Shown::Plain(key) => write_key(*key, text),
     }
 }
 
@@ -26,7 +26,7 @@ pub fn put_event(alloc: Global, event: &Event, text: &mut Octets) -> Result<(), 
         Event::EnterData => write_word("ENTERDATA", text),
         Event::Key(shown) => {
             write_word("KEY ", text)?;
-            put_shown_key(alloc, shown, text)
+            put_shown_key(shown, text)
         }
         Event::Initialized => write_word("INITIALIZED", text),
         Event::IllegalKeyAccess(name, refusal) => {

@@ -1,8 +1,9 @@
 //! The lines of a step put behind a text.
-ghost use Rattle.std.specs.Prelude.{◌≡◌, ◌++◌, flat_map, IsTrue, OnOk, is_some};
-ghost use Rattle.pad_steps.specs.Formed.{is_well_formed};
+ghost use Rattle.std.specs.Prelude.{◌≡◌, ◌++◌, flat_map, IfSome, IsTrue, OnOk, is_some};
+ghost use Rattle.std.specs.Option.{option_copied};
+ghost use Rattle.pad_steps.specs.Today.{is_taken_today};
 ghost use Rattle.transcript.specs.DiskWords.{is_loaded};
-ghost use Rattle.transcript.specs.PrintedLines.{out_text, out_line, line_text, line_of_step};
+ghost use Rattle.transcript.specs.PrintedLines.{out_text, out_line, line_text, line_of_shown};
 
 use crate::disk_words::put_disk_word;
 use crate::events::put_event;
@@ -12,8 +13,7 @@ use crate::replies::put_reply;
 use crate::values::put_session;
 use pad_steps::{DiskWord, Fate, Out, Step};
 use pad_words::{NoMemory, Octets};
-use script_lang::write_step;
-use script_lang::writing::{write_number, write_word};
+use script_lang::writing::{write_number, write_shown, write_word};
 use std::alloc::Global;
 
 #[tactic(auto, unfolding(crate::specs::PrintedLines::out_text))]
@@ -69,23 +69,22 @@ fn put_outs(alloc: Global, outs: &[Out], text: &mut Octets) -> Result<(), NoMemo
     Ok(())
 }
 
-/// Puts the step with the disk's word on one line, and a line for each out.
+/// Puts the shown step with the disk's word on one line, and a line for each out. It sees no key of a masked press.
 #[tactic(auto, unfolding(crate::specs::PrintedLines::line_text))]
 pub fn put_line(
     alloc: Global,
-    step: &Step,
-    masked: bool,
+    shown: Option<&Step>,
     word: &DiskWord,
     fate: Option<Fate>,
     outs: &[Out],
     text: &mut Octets,
 ) -> Result<(), NoMemory>
-    requires formed { IsTrue (is_well_formed step.now) }
+    requires formed { IfSome shown (λ step. IsTrue (is_taken_today step.now)) }
     requires fate { is_some fate ≡ is_loaded word.now }
-    ensures { OnOk result (text.new ≡ text.old ++ line_text (line_of_step step.now masked word.now fate outs.now)) }
+    ensures { OnOk result (text.new ≡ text.old ++ line_text (line_of_shown (option_copied shown.entry) word.now fate outs.now)) }
 {
     write_word("> ", text)?;
-    write_step(alloc, step, masked, text)?;
+    write_shown(alloc, shown, text)?;
     put_disk_word(alloc, word, fate, text)?;
     write_word("\n", text)?;
     put_outs(alloc, outs, text)

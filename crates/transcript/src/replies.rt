@@ -55,6 +55,11 @@ fn put_answer(alloc: Global, answer: &Answer, text: &mut Octets) -> Result<(), N
             write_word("OK block ", text)?;
             put_bytes(alloc, &block.0, text)
         }
+        Answer::Wide(left, right) => {
+            write_word("OK block ", text)?;
+            put_bytes(alloc, &left.0, text)?;
+            put_bytes(alloc, &right.0, text)
+        }
         Answer::Checked(holds) => {
             write_word("OK check ", text)?;
             put_yes_no(*holds, text)

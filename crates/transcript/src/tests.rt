@@ -175,6 +175,10 @@ fn replies(rt: HostRuntime) -> Result<(), Fail> {
             Answer::Block(block),
             "< 2 ended 7 OK block 0E329232EA6D0D73\n",
         ),
+        (
+            Answer::Wide(block, Block([0; 8])),
+            "< 2 ended 7 OK block 0E329232EA6D0D730000000000000000\n",
+        ),
         (Answer::Checked(true), "< 2 ended 7 OK check yes\n"),
         (Answer::Checked(false), "< 2 ended 7 OK check no\n"),
         (Answer::Crypt(bytes), "< 2 ended 7 OK crypt 00A19F\n"),

@@ -358,7 +358,7 @@ const IMPORT_W: Act<'static> = Act::Do(
 
 #[test]
 fn imports_and_deletions(rt: HostRuntime) -> Result<(), Fail> {
-    let rows: [(&str, &[Act]); 8] = [
+    let rows: [(&str, &[Act]); 9] = [
         (
             "check values of the example of FIPS 81",
             &[
@@ -461,13 +461,35 @@ fn imports_and_deletions(rt: HostRuntime) -> Result<(), Fail> {
                 ),
                 Act::Refuse("import D clear 0000000000000000 00C4 none", "INVALIDDATA"),
                 Act::Refuse("import D clear 0000000000000000 0010 none", "INVALIDDATA"),
-                Act::Refuse("import D clear 0000000000000000 0104 none", "INVALIDDATA"),
+                Act::Refuse("import D clear 0000000000000000 0804 none", "INVALIDDATA"),
                 Act::Refuse("import D clear 0000000000000000 0000 none", "INVALIDDATA"),
                 Act::Refuse(
                     "import D sealed KEK 0000000000000000 0084 none",
                     "INVALIDDATA",
                 ),
                 Act::Do("delete D", "KEYNOTFOUND"),
+            ],
+        ),
+        (
+            "keys for checks in the device, for blocks that leave it, and for AES alone",
+            &[
+                Act::Refuse(
+                    "import AK clear 000102030405060708090A0B0C0D0E0F 0401 none",
+                    "INVALIDDATA",
+                ),
+                Act::Do(
+                    "import AK clear 000102030405060708090A0B0C0D0E0F 0400 none",
+                    "OK key -",
+                ),
+                Act::Do("crypt ecb encrypt AK - 00 00", "USEVIOLATION"),
+                Act::Do("import L clear 0000000000000000 0100 zero", "OK key 8CA64D"),
+                Act::Do("pinblock iso0 L - - 543210123456789 F", "USEVIOLATION"),
+                Act::Do("import R clear 0000000000000000 0200 zero", "OK key 8CA64D"),
+                Act::Enter("1234"),
+                Act::Do(
+                    "pinblock iso0 R - - 543210123456789 F",
+                    "OK block DFB4F453C786CCBB",
+                ),
             ],
         ),
         (

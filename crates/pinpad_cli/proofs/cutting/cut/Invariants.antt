@@ -1,16 +1,16 @@
 use Rattle.std.proofs.Common.{drop, length, ◌-◌, ◌≡◌, ◌≤◌}
 use Rattle.std.specs.Prelude.{All}
 use Rattle.pinpad_cli.proofs.CutLemmas.{with_lines}
-use Rattle.pinpad_cli.specs.Cuts.{IsBuilt}
+use Rattle.pinpad_cli.specs.Cuts.{IsSpelled}
 use Rattle.pinpad_cli.specs.Script.{lines_of_pieces, pieces_of}
 use Rattle.pinpad_cli.proofs.cutting.cut.Given as goal
 
--- the lines so far, before those of the rest
+-- the lines that were cut, before those of the rest
 abbrev pub invariant-loop-at : goal.invariant-loop-at
 invariant-loop-at l = record {
   within : l.at ≤ length l.script;
   few : length l.lines.items ≤ l.at;
-  built : All IsBuilt l.lines.items;
+  spelled : All IsSpelled l.lines.items;
   rest : lines_of_pieces (pieces_of l.script) ≡ with_lines l.lines.items (lines_of_pieces (pieces_of (drop l.at l.script)));
 }
 

@@ -1,17 +1,19 @@
+use Rattle.std.specs.Prelude.{List}
 use Rattle.std.proofs.Common.{length, ℕ, ◌≤◌}
 use Rattle.disk_core.specs.CountedSinks.{counted_faults, counted_given}
 use Rattle.flat_machine.specs.State.{Flat}
-use Rattle.pad_machine.specs.Stands.{StandsFor, work_left}
+use Rattle.flat_machine.specs.RequestFacts.{work_left}
+use Rattle.pad_machine.specs.Stands.{StandsFor}
 use Rattle.pinpad_cli.specs.Parts.{Ran}
 use Rattle.pinpad_cli.specs.Runs.{Player, auto_then}
 use Rattle.pinpad_cli.proofs.running.run_auto.Given as goal
 
 abbrev pub invariant-loop-step : goal.invariant-loop-step
 invariant-loop-step g l = record {
-  ran : (fill : ℕ → ℕ) (state : Flat) (rest : Player) → StandsFor l.fn.pad state → Ran fill state (auto_then fill rest) (auto_then fill rest) l.pad l.fn.words.items l.words.items (counted_given g.K.Sink.given l.fn.sink) (counted_given g.K.Sink.given l.sink);
+  ran : (seed : List ℕ) (state : Flat) (rest : Player) → StandsFor l.fn.pad seed state → Ran seed state (auto_then seed rest) (auto_then seed rest) l.pad l.fn.words.items l.words.items (counted_given g.K.Sink.given l.fn.sink) (counted_given g.K.Sink.given l.sink);
   later : counted_faults g.K.Sink.faults l.fn.sink ≤ counted_faults g.K.Sink.faults l.sink;
-  ids : length l.pad.public.requests ≤ length l.fn.pad.public.requests;
+  ids : length l.pad.shared.requests ≤ length l.fn.pad.shared.requests;
 }
 
 abbrev pub decreases-loop-step : goal.decreases-loop-step
-decreases-loop-step g l = work_left l.pad.public.requests
+decreases-loop-step g l = work_left l.pad.shared.requests

@@ -1,3 +1,4 @@
+use Rattle.std.specs.Prelude.{List}
 use Rattle.std.proofs.Common.{drop, length, take, ℕ, ◌≡◌, ◌≤◌}
 use Rattle.disk_core.specs.CountedSinks.{counted_faults, counted_given}
 use Rattle.flat_machine.specs.State.{Flat}
@@ -8,9 +9,9 @@ use Rattle.pinpad_cli.proofs.running.run_lines.Given as goal
 
 abbrev pub invariant-loop-line : goal.invariant-loop-line
 invariant-loop-line g l = record {
-  ran : (fill : ℕ → ℕ) (state : Flat) → StandsFor l.fn.pad state → Ran fill state (play fill l.lines) (play fill (drop l.line-index l.lines)) l.pad l.fn.words.items l.words.items (counted_given g.K.Sink.given l.fn.sink) (counted_given g.K.Sink.given l.sink);
-  took : (fill : ℕ → ℕ) (state : Flat) (rest : Player) → StandsFor l.fn.pad state → Took fill state (play_then fill (take l.line-index l.lines) rest) rest l.pad l.fn.words.items l.words.items;
+  ran : (seed : List ℕ) (state : Flat) → StandsFor l.fn.pad seed state → Ran seed state (play seed l.lines) (play seed (drop l.line-index l.lines)) l.pad l.fn.words.items l.words.items (counted_given g.K.Sink.given l.fn.sink) (counted_given g.K.Sink.given l.sink);
+  took : (seed : List ℕ) (state : Flat) (rest : Player) → StandsFor l.fn.pad seed state → Took seed state (play_then seed (take l.line-index l.lines) rest) rest l.pad l.fn.words.items l.words.items;
   later : counted_faults g.K.Sink.faults l.fn.sink ≤ counted_faults g.K.Sink.faults l.sink;
-  ids : length l.pad.public.requests ≤ l.line-index;
+  ids : length l.pad.shared.requests ≤ l.line-index;
   count : l.count ≡ l.line-index;
 }

@@ -5,7 +5,7 @@ use Rattle.disk_core.specs.Streams.{GivesFront, with_more}
 use Rattle.flat_machine.specs.Machine.{Act}
 use Rattle.flat_machine.specs.State.{ready_opening}
 use Rattle.flat_machine.specs.Twins.{Twins}
-use Rattle.flat_machine.specs.Standard.{standard_setting}
+use Rattle.pad_machine.specs.Stands.{set_by, zero_seed}
 use Rattle.pad_steps.specs.Lines.{Line}
 use Rattle.pinpad_cli.proofs.TopLemmas.{read-fact, read-steps, read-to_end, read-words}
 use Rattle.pinpad_cli.specs.Runs.{line_count, text_of}
@@ -24,27 +24,27 @@ returns-in-Ok-clause-lines g c = λ zero. read-fact _ _ c.in-Ok.text (λ (lines 
 
 pub returns-in-Ok-clause-printed : goal.returns-in-Ok-clause-printed
 returns-in-Ok-clause-printed g c = λ zero. read-steps _ _ c.in-Ok.text c.run_script.result.words
-    (λ (fill : ℕ → ℕ) (acts : List Act). g.K.Sink.given c.run_script.new.sink.inner ≡ with_more (g.K.Sink.given c.args.sink.now.inner) (text_of fill acts))
+    (λ (acts : List Act). g.K.Sink.given c.run_script.new.sink.inner ≡ with_more (g.K.Sink.given c.args.sink.now.inner) (text_of zero_seed acts))
     c.in-Ok.ensures.read (rw c.items.ensures at (c.run_script.ensures.printed zero))
 
 pub returns-in-Ok-clause-twins : goal.returns-in-Ok-clause-twins
 returns-in-Ok-clause-twins g c = λ zero. read-steps _ _ c.in-Ok.text c.run_script.result.words
-    (λ (fill : ℕ → ℕ) (acts : List Act). (b : List Act) → Twins (standard_setting fill) ready_opening acts b → g.K.Sink.given c.run_script.new.sink.inner ≡ with_more (g.K.Sink.given c.args.sink.now.inner) (text_of fill b))
+    (λ (acts : List Act). (b : List Act) → Twins (set_by zero_seed) ready_opening acts b → g.K.Sink.given c.run_script.new.sink.inner ≡ with_more (g.K.Sink.given c.args.sink.now.inner) (text_of zero_seed b))
     c.in-Ok.ensures.read
-    (λ fill b twins. (rw c.items.ensures at (c.run_script.ensures.printed zero)) fill
-    ∙ ap (λ (lines : List Line). with_more (g.K.Sink.given c.args.sink.now.inner) (lines_text lines)) (sym (c.twins_print_alike.ensures (standard_setting fill) ready_opening _ b twins)))
+    (λ b twins. (rw c.items.ensures at (c.run_script.ensures.printed zero))
+    ∙ ap (λ (lines : List Line). with_more (g.K.Sink.given c.args.sink.now.inner) (lines_text lines)) (sym (c.twins_print_alike.ensures (set_by zero_seed) ready_opening _ b twins)))
 
 pub returns-in-Ok-clause-front : goal.returns-in-Ok-clause-front
 returns-in-Ok-clause-front g c = read-steps _ _ c.in-Ok.text c.run_script.result.words
-    (λ (fill : ℕ → ℕ) (acts : List Act). GivesFront (g.K.Sink.given c.args.sink.now.inner) (g.K.Sink.given c.run_script.new.sink.inner) (text_of fill acts))
+    (λ (acts : List Act). GivesFront (g.K.Sink.given c.args.sink.now.inner) (g.K.Sink.given c.run_script.new.sink.inner) (text_of zero_seed acts))
     c.in-Ok.ensures.read (rw c.items.ensures at c.run_script.ensures.front)
 
 pub returns-in-Ok-clause-twin_front : goal.returns-in-Ok-clause-twin_front
 returns-in-Ok-clause-twin_front g c = read-steps _ _ c.in-Ok.text c.run_script.result.words
-    (λ (fill : ℕ → ℕ) (acts : List Act). (b : List Act) → Twins (standard_setting fill) ready_opening acts b → GivesFront (g.K.Sink.given c.args.sink.now.inner) (g.K.Sink.given c.run_script.new.sink.inner) (text_of fill b))
+    (λ (acts : List Act). (b : List Act) → Twins (set_by zero_seed) ready_opening acts b → GivesFront (g.K.Sink.given c.args.sink.now.inner) (g.K.Sink.given c.run_script.new.sink.inner) (text_of zero_seed b))
     c.in-Ok.ensures.read
-    (λ fill b twins. subst (λ (lines : List Line). GivesFront (g.K.Sink.given c.args.sink.now.inner) (g.K.Sink.given c.run_script.new.sink.inner) (lines_text lines)) (sym (c.twins_print_alike.ensures (standard_setting fill) ready_opening _ b twins))
-    ((rw c.items.ensures at c.run_script.ensures.front) fill))
+    (λ b twins. subst (λ (lines : List Line). GivesFront (g.K.Sink.given c.args.sink.now.inner) (g.K.Sink.given c.run_script.new.sink.inner) (lines_text lines)) (sym (c.twins_print_alike.ensures (set_by zero_seed) ready_opening _ b twins))
+    (rw c.items.ensures at c.run_script.ensures.front))
 
 pub returns-in-Ok-clause-outside : goal.returns-in-Ok-clause-outside
 returns-in-Ok-clause-outside g c = λ one. read-fact _ _ c.in-Ok.text (λ (lines : Option (List ScriptLine)). lines ≡ None) c.in-Ok.ensures.read (rw c.items.ensures at (c.run_script.ensures.outside one))
@@ -57,5 +57,5 @@ returns-in-Ok-clause-line_within g c = read-fact _ _ c.in-Ok.text (λ (lines : O
 
 pub returns-in-Ok-clause-line_front : goal.returns-in-Ok-clause-line_front
 returns-in-Ok-clause-line_front g c = read-fact _ _ c.in-Ok.text
-    (λ (found : Option (List ScriptLine)). (fill : ℕ → ℕ) → IfSome found (λ lines. PlaysFront fill ready_opening (take c.run_script.result.line lines) [] c.run_script.result.words))
+    (λ (found : Option (List ScriptLine)). IfSome found (λ lines. PlaysFront zero_seed ready_opening (take c.run_script.result.line lines) [] c.run_script.result.words))
     c.in-Ok.ensures.read (rw c.items.ensures at c.run_script.ensures.line_front)
