@@ -3,7 +3,7 @@ use Rattle.entry_core.specs.Entries.{Entry, entry_of, entry_refusal}
 use Rattle.device_lock.specs.LockLine.{holder_of}
 use Rattle.flat_machine.proofs.BoolLemmas.{true_is_not_false}
 use Rattle.flat_machine.proofs.Completeness.{begin_with_is}
-use Rattle.flat_machine.proofs.DecisionChains.{decides, is_own}
+use Rattle.flat_machine.proofs.DecisionChains.{decides, is_own, own_passes}
 use Rattle.flat_machine.proofs.EndCauses.{endings-notables}
 use Rattle.flat_machine.proofs.EndingLemmas.{endings-accuses}
 use Rattle.flat_machine.proofs.QueueMoves.{same_request, working_row}
@@ -116,33 +116,7 @@ accused_denied set p n c why name = decides set p n (λ v. v ≡ work.Refuse why
 -- refusals that are none of the three
 
 unplain_own : (r : Refusal) → is_own r ≡ true → is_denial r ≡ false
-unplain_own refusal.NoSession e = cc
-unplain_own refusal.AlreadyOpen e = cc
-unplain_own refusal.ConnectionLost e = cc
-unplain_own (refusal.Locked s) e = cc
-unplain_own (refusal.QueueFull n) e = cc
-unplain_own refusal.UnsuppCommand e = refl
-unplain_own refusal.FormatNotSupported e = cc
-unplain_own refusal.ModeNotSupported e = cc
-unplain_own refusal.InvalidData e = cc
-unplain_own refusal.HardwareError e = cc
-unplain_own (refusal.BadStore slot) e = cc
-unplain_own refusal.MinimumLength e = cc
-unplain_own refusal.NoActiveKeys e = cc
-unplain_own refusal.KeyNotSupported e = cc
-unplain_own refusal.KeyNotFound e = cc
-unplain_own refusal.KeyNoValue e = cc
-unplain_own refusal.UseViolation e = cc
-unplain_own refusal.AccessDenied e = refl
-unplain_own refusal.InvalidKeyLength e = refl
-unplain_own (refusal.DuplicateKey name) e = refl
-unplain_own refusal.TableFull e = refl
-unplain_own refusal.NoPin e = refl
-unplain_own refusal.LengthError e = refl
-unplain_own refusal.Canceled e = cc
-unplain_own refusal.Timeout e = cc
-unplain_own refusal.InvalidReqId e = cc
-unplain_own refusal.NotLocked e = cc
+unplain_own = own_passes (λ (r : Refusal). is_denial r ≡ false) refl refl refl refl (λ name. refl) refl refl
 
 undenied_device : (d : Device) (r : Refusal) → device_refusal d ≡ Some r → is_denial r ≡ false
 undenied_device Off r e = cc

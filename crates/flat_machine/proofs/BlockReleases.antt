@@ -200,23 +200,27 @@ module _ (laws : BlockLaws) where
       = subst (λ (p : Shared). release_with (standard_setting fill) p g.held (request_in_work p.requests) ≡ Some one.answer) differ.shared one.of_second in
       made_alike laws fill h.shared b taken h.held g.held one.answer (made_by laws fill h.shared b taken h.held one.answer one.at one.of_first) (made_by laws fill h.shared b taken g.held one.answer one.at of_g) differ.of_first differ.of_second differ.lengths
 
-  -- in a run the request passed Submit, the digits are decimal, and twins hold as many
-  passed_admit : (o : Option AdmitFault) → not (is_some (option_map admit_refusal o)) ≡ true → o ≡ None
-  passed_admit None e = refl
-  passed_admit (Some why) e = cc
+-- in a run the request passed Submit, the digits are decimal, and twins hold as many
+passed_admit : (o : Option AdmitFault) → not (is_some (option_map admit_refusal o)) ≡ true → o ≡ None
+passed_admit None e = refl
+passed_admit (Some why) e = cc
 
-  run_admits : (fill : ℕ → ℕ) (p : Shared) (b : BlockRequest) → CommandInWork p (command.Pin (pin.Block b)) → Sound (passes_submit (standard_setting fill).pin_rules) p → admit_block b ≡ None
-  run_admits fill p b at sound =
-      let passes = passes_submit (standard_setting fill).pin_rules in
-      let passed : passes at.request.command ≡ true = pass_first (passes at.request.command) (not (is_off p.device)) (pass-request_in_work (allowed passes p.device) p.requests at.request sound at.in_work) in
-      passed_admit (admit_block b) (subst (λ (x : Command). passes x ≡ true) at.asked passed)
+run_admits : (fill : ℕ → ℕ) (p : Shared) (b : BlockRequest) → CommandInWork p (command.Pin (pin.Block b)) → Sound (passes_submit (standard_setting fill).pin_rules) p → admit_block b ≡ None
+run_admits fill p b at sound =
+    let passes = passes_submit (standard_setting fill).pin_rules in
+    let passed : passes at.request.command ≡ true = pass_first (passes at.request.command) (not (is_off p.device)) (pass-request_in_work (allowed passes p.device) p.requests at.request sound at.in_work) in
+    passed_admit (admit_block b) (subst (λ (x : Command). passes x ≡ true) at.asked passed)
 
-  pub run_fixes : (fill : ℕ → ℕ) (b : BlockRequest) → IsFormedBlock b → (start : Flat) (xs ys : List Act) → IsStart start → Twins (standard_setting fill) start xs ys
-      → ReleaseOneBlock (standard_setting fill) (run_from (standard_setting fill) start xs) (run_from (standard_setting fill) start ys) b → (run_from (standard_setting fill) start ys).held ≡ (run_from (standard_setting fill) start xs).held
-  run_fixes fill b formed start xs ys begins twins one =
-      let set = standard_setting fill in
-      let h = run_from set start xs in
-      let alike = twins_end_alike set start xs ys twins in
-      block_fixes fill b h (run_from set start ys)
-      (record { formed = formed; admitted = run_admits fill h.shared b one.at (sound_runs set start xs begins) })
-      (record { shared = alike.shared; of_first = held_decimal set start xs begins; of_second = held_decimal set start ys begins; lengths = λ padded. alike.held }) one
+-- what the law says of two states
+abbrev pub BlockFixes : Type 0
+BlockFixes = (fill : ℕ → ℕ) (b : BlockRequest) (h g : Flat) → IsTakenBlock b → DifferInDigits b.form h g → ReleaseOneBlock (standard_setting fill) h g b → g.held ≡ h.held
+
+pub run_fixes : BlockFixes → (fill : ℕ → ℕ) (b : BlockRequest) → IsFormedBlock b → (start : Flat) (xs ys : List Act) → IsStart start → Twins (standard_setting fill) start xs ys
+    → ReleaseOneBlock (standard_setting fill) (run_from (standard_setting fill) start xs) (run_from (standard_setting fill) start ys) b → (run_from (standard_setting fill) start ys).held ≡ (run_from (standard_setting fill) start xs).held
+run_fixes fixes fill b formed start xs ys begins twins one =
+    let set = standard_setting fill in
+    let h = run_from set start xs in
+    let alike = twins_end_alike set start xs ys twins in
+    fixes fill b h (run_from set start ys)
+    (record { formed = formed; admitted = run_admits fill h.shared b one.at (sound_runs set start xs begins) })
+    (record { shared = alike.shared; of_first = held_decimal set start xs begins; of_second = held_decimal set start ys begins; lengths = λ padded. alike.held }) one

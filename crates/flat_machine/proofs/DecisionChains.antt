@@ -46,6 +46,18 @@ is_own refusal.TableFull = true
 is_own refusal.UnsuppCommand = true
 is_own other = false
 
+-- what every such refusal passes is passed by each that passes the test
+pub own_passes : (P : Refusal → Type 0) → P refusal.NoPin → P refusal.LengthError → P refusal.InvalidKeyLength → P refusal.AccessDenied → ((name : List ℕ) → P (refusal.DuplicateKey name)) → P refusal.TableFull → P refusal.UnsuppCommand
+    → (r : Refusal) → is_own r ≡ true → P r
+own_passes P no_pin length key_length denied duplicate full unsupported refusal.NoPin e = no_pin
+own_passes P no_pin length key_length denied duplicate full unsupported refusal.LengthError e = length
+own_passes P no_pin length key_length denied duplicate full unsupported refusal.InvalidKeyLength e = key_length
+own_passes P no_pin length key_length denied duplicate full unsupported refusal.AccessDenied e = denied
+own_passes P no_pin length key_length denied duplicate full unsupported (refusal.DuplicateKey name) e = duplicate name
+own_passes P no_pin length key_length denied duplicate full unsupported refusal.TableFull e = full
+own_passes P no_pin length key_length denied duplicate full unsupported refusal.UnsuppCommand e = unsupported
+own_passes P no_pin length key_length denied duplicate full unsupported other e = absurd cc
+
 -- what holds of each work that a command can come to, with what it has passed
 pub record EachCase (set : Setting) (p : Shared) (n : ℕ) (c : Command) (Holds : Work → Type 0) : Type 0 where
   pub waits : needs set.pin_rules c ≡ [] → Holds work.Waits

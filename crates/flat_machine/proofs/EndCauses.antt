@@ -1,7 +1,7 @@
 -- Why each request ends that a step ends.
 use Rattle.entry_core.specs.Entries.{Entry, entry_refusal, has_unsupported_keys}
 use Rattle.flat_machine.proofs.BoolLemmas.{both, or_left, or_right, true_is_not_false}
-use Rattle.flat_machine.proofs.DecisionChains.{decides, is_own}
+use Rattle.flat_machine.proofs.DecisionChains.{decides, is_own, own_passes}
 use Rattle.flat_machine.proofs.EndingLemmas.{endings-accuses, endings-append}
 use Rattle.flat_machine.proofs.LineMoves.{same_turned}
 use Rattle.flat_machine.proofs.StepCauses.{Began, ByAnswer, ByBadStore, ByCancel, ByClose, ByCut, ByDevice, ByFault, ByOff, ByPress, ByRefusal, ByTick, Caused, EndedMany, EndedOne, EndsMany, EndsOne, Nothing, RefusedEntry, Submitted, ended_by, next_caused, notable_in, notables}
@@ -94,33 +94,7 @@ abbrev pub Plainly : Device → Refusal → Type 0
 Plainly device r = (device_refusal device ≡ Some r) ⊎ (is_plain r ≡ true)
 
 plain_own : (r : Refusal) → is_own r ≡ true → is_plain r ≡ true
-plain_own refusal.NoSession e = cc
-plain_own refusal.AlreadyOpen e = cc
-plain_own refusal.ConnectionLost e = cc
-plain_own (refusal.Locked s) e = cc
-plain_own (refusal.QueueFull n) e = cc
-plain_own refusal.UnsuppCommand e = refl
-plain_own refusal.FormatNotSupported e = cc
-plain_own refusal.ModeNotSupported e = cc
-plain_own refusal.InvalidData e = cc
-plain_own refusal.HardwareError e = cc
-plain_own (refusal.BadStore slot) e = cc
-plain_own refusal.MinimumLength e = cc
-plain_own refusal.NoActiveKeys e = cc
-plain_own refusal.KeyNotSupported e = cc
-plain_own refusal.KeyNotFound e = cc
-plain_own refusal.KeyNoValue e = cc
-plain_own refusal.UseViolation e = cc
-plain_own refusal.AccessDenied e = refl
-plain_own refusal.InvalidKeyLength e = refl
-plain_own (refusal.DuplicateKey name) e = refl
-plain_own refusal.TableFull e = refl
-plain_own refusal.NoPin e = refl
-plain_own refusal.LengthError e = refl
-plain_own refusal.Canceled e = cc
-plain_own refusal.Timeout e = cc
-plain_own refusal.InvalidReqId e = cc
-plain_own refusal.NotLocked e = cc
+plain_own = own_passes (λ (r : Refusal). is_plain r ≡ true) refl refl refl refl (λ name. refl) refl refl
 
 plain_denial : (why : Denied) → is_plain (denial why) ≡ true
 plain_denial denied.KeyNotFound = refl

@@ -71,6 +71,7 @@ pub mod RequestMoves
 pub mod RequestRuns
 pub mod RunCommands
 pub mod RunWords
+pub mod SeenHides
 pub mod SessionLemmas
 pub mod SessionRuns
 pub mod SoundLemmas

@@ -2,6 +2,7 @@
 use Rattle.entry_core.specs.Entries.{Entry, active_seen, after_value, digit_in, digit_seen, entered, is_key_part, shown_digit, value_seen}
 use Rattle.entry_core.specs.declared.seen.Seen.{Seen}
 use Rattle.entry_core.specs.declared.seen.Seen.TheVariants.{Ended, Ignored, Took}
+use Rattle.flat_machine.proofs.SeenHides.{hides-digit_seen, hides_if, hides_ignored, seen_hides}
 use Rattle.flat_machine.proofs.BoolLemmas.{both}
 use Rattle.flat_machine.proofs.ClearingAnswers.{press_to}
 use Rattle.flat_machine.proofs.EndingLemmas.{endings-append, endings-execute_event}
@@ -44,24 +45,6 @@ use Rattle.std.specs.Prelude.{Bool, IsTrue, List, None, Option, Some, [], cond, 
 
 -- what a key shows
 
-abbrev seen_hides : Seen → Bool
-seen_hides Ignored = true
-seen_hides (Took s) = hides_part_digit s
-seen_hides (Ended s c) = hides_part_digit s
-
-hides-digit_seen : (e : Entry) (n : ℕ) (b c : Bool) → seen_hides (if b then (if c then Ended shown.Masked completion.Auto else Took shown.Masked) else Ignored) ≡ true
-hides-digit_seen e n true true = refl
-hides-digit_seen e n true false = refl
-hides-digit_seen e n false c = refl
-
-hides_ignored : (b : Bool) (s : Seen) → seen_hides s ≡ true → seen_hides (if b then Ignored else s) ≡ true
-hides_ignored true s h = refl
-hides_ignored false s h = h
-
-hides_if : (b : Bool) (s t : Seen) → seen_hides s ≡ true → seen_hides t ≡ true → seen_hides (if b then s else t) ≡ true
-hides_if true s t h k = h
-hides_if false s t h k = k
-
 shown_part : (s : EntryKind) (k : Key) → is_key_part s ≡ true → shown_digit s k ≡ shown.Masked
 shown_part entry_kind.Pin k is = cc
 shown_part entry_kind.Figures k is = cc
@@ -72,18 +55,18 @@ value_seen-part : (e : Entry) (o : Option ℕ) (n : ℕ) (k : Key) → is_some o
 value_seen-part e None n k some is = cc
 value_seen-part e (Some v) n k some is = ap (λ (s : Shown). digit_seen e n s) (shown_part e.kind k is)
 
-masked_digit : (e : Entry) (n : ℕ) (o : Option ℕ) (k : Key) → is_some o ≡ true → is_key_part e.kind ≡ true → seen_hides (value_seen e o n k) ≡ true
-masked_digit e n o k some is = ap seen_hides (value_seen-part e o n k some is) ∙ hides-digit_seen e n (nat_lt n e.greatest) (e.auto_end && (n + 1 == e.greatest))
+masked_digit : (e : Entry) (n : ℕ) (o : Option ℕ) (k : Key) → is_some o ≡ true → is_key_part e.kind ≡ true → seen_hides hides_part_digit (value_seen e o n k) ≡ true
+masked_digit e n o k some is = ap (seen_hides hides_part_digit) (value_seen-part e o n k some is) ∙ hides-digit_seen hides_part_digit refl (nat_lt n e.greatest) (e.auto_end && (n + 1 == e.greatest))
 
-part_seen_hides : (e : Entry) (n : ℕ) (k : Key) → is_key_part e.kind ≡ true → seen_hides (active_seen e n k) ≡ true
+part_seen_hides : (e : Entry) (n : ℕ) (k : Key) → is_key_part e.kind ≡ true → seen_hides hides_part_digit (active_seen e n k) ≡ true
 part_seen_hides e n (keypad.Digit d) is = masked_digit e n (Some d.value) (keypad.Digit d) refl is
 part_seen_hides e n (keypad.Hex v) is = masked_digit e n (if is_key_part e.kind then Some v else None) (keypad.Hex v) (ap (λ (b : Bool). is_some (if b then Some v else None)) is) is
-part_seen_hides e n keypad.Enter is = hides_if (has_key e.terminate keypad.Enter) _ _ (hides_ignored (nat_lt n e.least) (Ended (shown.Plain keypad.Enter) completion.Enter) refl) refl
-part_seen_hides e n keypad.Cancel is = hides_if (has_key e.terminate keypad.Cancel) _ _ refl refl
-part_seen_hides e n keypad.Clear is = hides_if (has_key e.terminate keypad.Clear) _ _ refl refl
-part_seen_hides e n keypad.Backspace is = hides_if (has_key e.terminate keypad.Backspace) _ _ refl refl
-part_seen_hides e n keypad.Help is = hides_if (has_key e.terminate keypad.Help) _ _ (hides_ignored (nat_lt n e.least) (Ended (shown.Plain keypad.Help) completion.Help) refl) refl
-part_seen_hides e n (keypad.Fdk m) is = hides_if (has_key e.terminate (keypad.Fdk m)) _ _ (hides_ignored (nat_lt n e.least) (Ended (shown.Plain (keypad.Fdk m)) (completion.Fdk m)) refl) refl
+part_seen_hides e n keypad.Enter is = hides_if hides_part_digit (has_key e.terminate keypad.Enter) _ _ (hides_ignored hides_part_digit (nat_lt n e.least) (Ended (shown.Plain keypad.Enter) completion.Enter) refl) refl
+part_seen_hides e n keypad.Cancel is = hides_if hides_part_digit (has_key e.terminate keypad.Cancel) _ _ refl refl
+part_seen_hides e n keypad.Clear is = hides_if hides_part_digit (has_key e.terminate keypad.Clear) _ _ refl refl
+part_seen_hides e n keypad.Backspace is = hides_if hides_part_digit (has_key e.terminate keypad.Backspace) _ _ refl refl
+part_seen_hides e n keypad.Help is = hides_if hides_part_digit (has_key e.terminate keypad.Help) _ _ (hides_ignored hides_part_digit (nat_lt n e.least) (Ended (shown.Plain keypad.Help) completion.Help) refl) refl
+part_seen_hides e n (keypad.Fdk m) is = hides_if hides_part_digit (has_key e.terminate (keypad.Fdk m)) _ _ (hides_ignored hides_part_digit (nat_lt n e.least) (Ended (shown.Plain (keypad.Fdk m)) (completion.Fdk m)) refl) refl
 
 -- what it says
 
@@ -105,7 +88,7 @@ one_out : (s : Session) (id : ℕ) (x : Answer) (n : ℕ) (c : Completion) (chec
 one_out s id x n c check is = rw is refl
 
 module _ (set : Setting) (h : Flat) (w : Running) (is : is_key_part w.entry.kind ≡ true) (k : Key) where
-  part_press : (seen : Seen) → seen_hides seen ≡ true → list_all hides_part (press_seen set.cipher h w k seen).outs ≡ true
+  part_press : (seen : Seen) → seen_hides hides_part_digit seen ≡ true → list_all hides_part (press_seen set.cipher h w k seen).outs ≡ true
   part_press Ignored e = refl
   part_press (Took s) e = key_alone_hides (hears w.session class.Execute h.shared.sessions) w.session s e
   part_press (Ended s c) e =

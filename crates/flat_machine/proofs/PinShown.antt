@@ -1,4 +1,5 @@
 -- What a PIN entry says shows no digit.
+use Rattle.flat_machine.proofs.SeenHides.{hides-digit_seen, hides_if, hides_ignored, seen_hides}
 use Rattle.flat_machine.proofs.EntryLemmas.{shown_pin}
 use Rattle.flat_machine.specs.Ciphers.{Ciphers}
 use Rattle.entry_core.specs.Entries.{Entry, active_seen, digit_seen, entered, is_key_part, is_pin, is_secret, shown_digit}
@@ -36,41 +37,23 @@ use Rattle.pad_steps.specs.declared.steps.Step.TheVariants as step
 
 -- what a key of a PIN entry shows
 
-abbrev seen_hides : Seen → Bool
-seen_hides Ignored = true
-seen_hides (Took s) = shows_no_digit s
-seen_hides (Ended s c) = shows_no_digit s
-
-hides-digit_seen : (e : Entry) (n : ℕ) (b c : Bool) → seen_hides (if b then (if c then Ended shown.Masked completion.Auto else Took shown.Masked) else Ignored) ≡ true
-hides-digit_seen e n true true = refl
-hides-digit_seen e n true false = refl
-hides-digit_seen e n false c = refl
-
-hides_ignored : (b : Bool) (s : Seen) → seen_hides s ≡ true → seen_hides (if b then Ignored else s) ≡ true
-hides_ignored true s h = refl
-hides_ignored false s h = h
-
-hides_if : (b : Bool) (s t : Seen) → seen_hides s ≡ true → seen_hides t ≡ true → seen_hides (if b then s else t) ≡ true
-hides_if true s t h k = h
-hides_if false s t h k = k
-
 pub pin_is_no_part : (k : EntryKind) → is_pin k ≡ true → is_key_part k ≡ false
 pin_is_no_part entry_kind.Pin e = refl
 pin_is_no_part entry_kind.Figures e = refl
 pin_is_no_part entry_kind.Part e = cc
 
-masked_digit : (e : Entry) (n : ℕ) (k : Key) → is_pin e.kind ≡ true → seen_hides (digit_seen e n (shown_digit e.kind k)) ≡ true
-masked_digit e n k is = rw (shown_pin e.kind k is) (hides-digit_seen e n (nat_lt n e.greatest) (e.auto_end && (n + 1 == e.greatest)))
+masked_digit : (e : Entry) (n : ℕ) (k : Key) → is_pin e.kind ≡ true → seen_hides shows_no_digit (digit_seen e n (shown_digit e.kind k)) ≡ true
+masked_digit e n k is = rw (shown_pin e.kind k is) (hides-digit_seen shows_no_digit refl (nat_lt n e.greatest) (e.auto_end && (n + 1 == e.greatest)))
 
-pub pin_seen_hides : (e : Entry) (n : ℕ) (k : Key) → is_pin e.kind ≡ true → seen_hides (active_seen e n k) ≡ true
+pub pin_seen_hides : (e : Entry) (n : ℕ) (k : Key) → is_pin e.kind ≡ true → seen_hides shows_no_digit (active_seen e n k) ≡ true
 pin_seen_hides e n (keypad.Digit d) is = masked_digit e n (keypad.Digit d) is
-pin_seen_hides e n (keypad.Hex v) is = rw (pin_is_no_part e.kind is) (hides_if (has_key e.terminate (keypad.Hex v)) _ _ refl refl)
-pin_seen_hides e n keypad.Enter is = hides_if (has_key e.terminate keypad.Enter) _ _ (hides_ignored (nat_lt n e.least) (Ended (shown.Plain keypad.Enter) completion.Enter) refl) refl
-pin_seen_hides e n keypad.Cancel is = hides_if (has_key e.terminate keypad.Cancel) _ _ refl refl
-pin_seen_hides e n keypad.Clear is = hides_if (has_key e.terminate keypad.Clear) _ _ refl refl
-pin_seen_hides e n keypad.Backspace is = hides_if (has_key e.terminate keypad.Backspace) _ _ refl refl
-pin_seen_hides e n keypad.Help is = hides_if (has_key e.terminate keypad.Help) _ _ (hides_ignored (nat_lt n e.least) (Ended (shown.Plain keypad.Help) completion.Help) refl) refl
-pin_seen_hides e n (keypad.Fdk m) is = hides_if (has_key e.terminate (keypad.Fdk m)) _ _ (hides_ignored (nat_lt n e.least) (Ended (shown.Plain (keypad.Fdk m)) (completion.Fdk m)) refl) refl
+pin_seen_hides e n (keypad.Hex v) is = rw (pin_is_no_part e.kind is) (hides_if shows_no_digit (has_key e.terminate (keypad.Hex v)) _ _ refl refl)
+pin_seen_hides e n keypad.Enter is = hides_if shows_no_digit (has_key e.terminate keypad.Enter) _ _ (hides_ignored shows_no_digit (nat_lt n e.least) (Ended (shown.Plain keypad.Enter) completion.Enter) refl) refl
+pin_seen_hides e n keypad.Cancel is = hides_if shows_no_digit (has_key e.terminate keypad.Cancel) _ _ refl refl
+pin_seen_hides e n keypad.Clear is = hides_if shows_no_digit (has_key e.terminate keypad.Clear) _ _ refl refl
+pin_seen_hides e n keypad.Backspace is = hides_if shows_no_digit (has_key e.terminate keypad.Backspace) _ _ refl refl
+pin_seen_hides e n keypad.Help is = hides_if shows_no_digit (has_key e.terminate keypad.Help) _ _ (hides_ignored shows_no_digit (nat_lt n e.least) (Ended (shown.Plain keypad.Help) completion.Help) refl) refl
+pin_seen_hides e n (keypad.Fdk m) is = hides_if shows_no_digit (has_key e.terminate (keypad.Fdk m)) _ _ (hides_ignored shows_no_digit (nat_lt n e.least) (Ended (shown.Plain (keypad.Fdk m)) (completion.Fdk m)) refl) refl
 
 -- what it says
 
@@ -96,7 +79,7 @@ pin_reply_hides cipher entry_kind.Part v c ds is = cc
 one_out : (s : Session) (id : ℕ) (r : Reply) → reply_hides r ≡ true → list_all hides_digits (out.Ended s id r ∷ []) ≡ true
 one_out s id r h = rw h refl
 
-press_hides : (set : Setting) (h : Flat) (w : Running) (k : Key) (seen : Seen) → is_pin w.entry.kind ≡ true → seen_hides seen ≡ true → list_all hides_digits (press_seen set.cipher h w k seen).outs ≡ true
+press_hides : (set : Setting) (h : Flat) (w : Running) (k : Key) (seen : Seen) → is_pin w.entry.kind ≡ true → seen_hides shows_no_digit seen ≡ true → list_all hides_digits (press_seen set.cipher h w k seen).outs ≡ true
 press_hides set h w k Ignored is e = refl
 press_hides set h w k (Took s) is e = key_alone_hides h.shared.sessions w.session s e
 press_hides set h w k (Ended s c) is e =
