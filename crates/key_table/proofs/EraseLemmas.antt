@@ -7,7 +7,7 @@ use Rattle.key_table.proofs.KeyStoreLemmas.{unstruck-calls}
 use Rattle.key_table.proofs.TableLemmas.{Above, SlotRow, table_from}
 use Rattle.key_table.specs.Changes.{Change, changed, erasure, erasures}
 use Rattle.key_table.specs.KeyRows.{KeyRows, put_row}
-use Rattle.key_table.specs.KeyStores.{IsTornBy, KeyStore, MakesChanges, ShowsInDoubt, changed_bytes}
+use Rattle.key_table.specs.KeyStores.{IsTornBy, KeyStore, MakesChanges, ShowsInDoubt, changed_bytes, lowest_row}
 use Rattle.key_table.specs.StoredRows.{put_bytes}
 use Rattle.key_table.specs.Tables.{is_table}
 use Rattle.nv_store.specs.Cells.{IsTorn}
@@ -127,12 +127,12 @@ filter_above n (r ∷ rows) above = by (r.0 == n) refl (filter_above n rows abov
 emptied_first : (r : SlotRow) (rows : KeyRows) → Above r.0 rows → put_row r.0 None (r ∷ rows) ≡ rows
 emptied_first r rows above = ap (λ (b : Bool). cond (not b) (r ∷ put_row r.0 None rows) (put_row r.0 None rows)) (eq-eqb r.0 r.0 refl) ∙ filter_above r.0 rows above
 
-pub put_row-first : (rows : KeyRows) (slot : ℕ) → IsTrue (is_table rows) → 0 < length rows → IfSome (slice_get rows 0) (λ first. slot ≡ first.0) → put_row slot None rows ≡ drop 1 rows
+pub put_row-first : (rows : KeyRows) (slot : ℕ) → IsTrue (is_table rows) → 0 < length rows → IfSome (lowest_row rows) (λ first. slot ≡ first.0) → put_row slot None rows ≡ drop 1 rows
 put_row-first [] slot table some at = absurd (omega (arith, some))
 put_row-first (r ∷ rows) slot table some at = ap (λ (n : ℕ). put_row n None (r ∷ rows)) at ∙ emptied_first r rows (table_from (r ∷ rows) table).0.above
 
 -- what is so of the first row is so of its slot
-pub at_first : (rows : KeyRows) (slot : ℕ) (P : ℕ → Type 0) → IfSome (slice_get rows 0) (λ first. slot ≡ first.0) → P slot → IfSome (slice_get rows 0) (λ first. P first.0)
+pub at_first : (rows : KeyRows) (slot : ℕ) (P : ℕ → Type 0) → IfSome (lowest_row rows) (λ first. slot ≡ first.0) → P slot → IfSome (lowest_row rows) (λ first. P first.0)
 at_first [] slot P at p = tt
 at_first (r ∷ rows) slot P at p = subst P at p
 

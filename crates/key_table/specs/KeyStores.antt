@@ -3,6 +3,7 @@ use Rattle.disk_core.specs.DiskStates.{DiskState, EachImage}
 use Rattle.disk_core.specs.Disks.{DeviceCalls, struck_within}
 use Rattle.disk_core.specs.declared.disk.DiskError.{DiskError}
 use Rattle.key_record.specs.Records.{spelled}
+use Rattle.key_attributes.specs.declared.KeyRow.{KeyRow}
 use Rattle.key_table.specs.Changes.{Change, changed}
 use Rattle.key_table.specs.KeyRows.{KeyRows}
 use Rattle.key_table.specs.StoredRows.{ShowsOldOrNew, put_bytes, rows_of}
@@ -21,6 +22,10 @@ use Rattle.std.specs.Prelude.{Bool, Err, IfSome, List, None, Ok, Option, Result,
 pub record KeyStore : Type 0 where
   pub rows : KeyRows
   pub bytes : Option (List ℕ)
+
+-- the row with the lowest slot
+abbrev pub lowest_row : KeyRows → Option (ℕ × KeyRow)
+lowest_row table = slice_get table 0
 
 -- the bytes of a store after changes one by one
 abbrev pub changed_bytes : List Change → List ℕ → List ℕ

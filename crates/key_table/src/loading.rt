@@ -34,8 +34,10 @@ fn take_slot(store: &Store, slot: u8, rows: &mut Vec<(u8, KeyRow)>) -> bool
     requires below { slot < SLOTS }
     requires few { length rows.old.items ≤ slot }
     requires room { 64 ≤ vec_capacity rows.old }
-    ensures taken { OnTrue result (IfSome store.now.bytes (λ bytes. scan bytes slot (64 - slot) rows.old.items ≡ scan bytes (slot + 1) (64 - (slot + 1)) rows.new.items)) }
-    ensures bad { OnFalse result (IfSome store.now.bytes (λ bytes. scan bytes slot (64 - slot) rows.old.items ≡ BadAt slot)) }
+    ensures taken { OnTrue result (IfSome store.now.bytes (λ bytes.
+        scan bytes slot (64 - slot) rows.old.items ≡ scan bytes (slot + 1) (64 - (slot + 1)) rows.new.items)) }
+    ensures bad { OnFalse result (IfSome store.now.bytes (λ bytes.
+        scan bytes slot (64 - slot) rows.old.items ≡ BadAt slot)) }
     ensures few { length rows.new.items ≤ slot + 1 }
     ensures room { 64 ≤ vec_capacity rows.new }
 {

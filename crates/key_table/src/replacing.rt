@@ -24,9 +24,11 @@ pub fn replace_row<D: Disk>(
     requires in_step { IsInStep (D.state disk.old) store.old.bytes }
     ensures valid { IsRow (option_copied row.entry) }
     ensures calls { DeviceCalls 4 (D.state disk.old) (D.state disk.new) (fault_in result) }
-    ensures ok { OnOk result (IfSome store.old.bytes (λ bytes. store.new.bytes ≡ Some (put_bytes bytes slot (option_copied row.entry)))) }
+    ensures ok { OnOk result (IfSome store.old.bytes (λ bytes.
+        store.new.bytes ≡ Some (put_bytes bytes slot (option_copied row.entry)))) }
     ensures in_step { OnOk result (IsInStep (D.state disk.new) store.new.bytes) }
-    ensures torn { OnErr result (IfSome store.old.bytes (λ bytes. EachImage (D.state disk.new) (IsTorn bytes slot (spelled (option_copied row.entry))))) }
+    ensures torn { OnErr result (IfSome store.old.bytes (λ bytes.
+        EachImage (D.state disk.new) (IsTorn bytes slot (spelled (option_copied row.entry))))) }
     ensures err { OnErr result (store.new.bytes ≡ None) }
 {
     let mut cell = [0; RECORD_BYTES];

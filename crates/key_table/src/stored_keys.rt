@@ -1,12 +1,12 @@
 //! The key table over a store.
-ghost use Rattle.std.specs.Prelude.{◌≡◌, ◌∷◌, [], Err, IfErr, IfNone, IfOk, IfSome, IsSome, IsTrue, None, Ok, OnErr, OnOk, OnSome, Some, drop, false, is_none, is_some, length, slice_get, true, ◌<◌};
+ghost use Rattle.std.specs.Prelude.{◌≡◌, ◌∷◌, [], Err, IfErr, IfNone, IfOk, IfSome, IsSome, IsTrue, None, Ok, OnErr, OnOk, OnSome, Some, drop, false, is_none, is_some, length, true, ◌<◌};
 ghost use Rattle.std.specs.Option.{option_copied};
 ghost use Rattle.disk_core.specs.DiskStates.{EachImage, Shrinks};
 ghost use Rattle.disk_core.specs.Disks.{DeviceCalls, KeepsContent, fault_in};
 ghost use Rattle.key_table.specs.Changes.{change_to, erasure, erasures};
 ghost use Rattle.key_table.specs.Duplicates.{duplicate};
 ghost use Rattle.key_table.specs.KeyRows.{find_row, put_row, row_in, slot_for, slot_of, with_row};
-ghost use Rattle.key_table.specs.KeyStores.{MakesChanges, bad_slot_in, done_in, is_key_missing, is_table_full, load_fault, put_fault, remove_fault};
+ghost use Rattle.key_table.specs.KeyStores.{MakesChanges, bad_slot_in, done_in, is_key_missing, is_table_full, load_fault, lowest_row, put_fault, remove_fault};
 ghost use Rattle.key_table.specs.Permits.{permit};
 ghost use Rattle.key_table.specs.StoredRows.{bad_slot, rows_of};
 ghost use Rattle.key_table.specs.Tables.{is_table};
@@ -120,8 +120,10 @@ impl StoredKeys {
         ensures content { KeepsContent (D.state disk.old) (D.state disk.new) }
         ensures in_step { OnOk result (IsInStep (D.state disk.new) self.new.bytes) }
         ensures shows { OnOk result (IfSome self.new.bytes (λ bytes. rows_of bytes ≡ Some self.new.rows)) }
-        ensures was_image { OnOk result (IfSome self.new.bytes (λ bytes. IfSome (D.state disk.old).content (λ _. (D.state disk.old).image bytes))) }
-        ensures bad { IfSome (bad_slot_in result) (λ slot. EachImage (D.state disk.new) (λ bytes. bad_slot bytes ≡ Some slot)) }
+        ensures was_image { OnOk result (IfSome self.new.bytes (λ bytes.
+            IfSome (D.state disk.old).content (λ _. (D.state disk.old).image bytes))) }
+        ensures bad { IfSome (bad_slot_in result) (λ slot.
+            EachImage (D.state disk.new) (λ bytes. bad_slot bytes ≡ Some slot)) }
         ensures kept { OnErr result (self.new.rows ≡ self.old.rows) }
         ensures err { OnErr result (self.new.bytes ≡ None) }
     {
@@ -151,8 +153,10 @@ impl StoredKeys {
         requires { IsInStep (D.state disk.old) self.old.bytes }
         ensures full { is_table_full result ≡ is_none (slot_for row.now.name self.old.rows) }
         ensures refused { is_table_full result ≡ true → (self.new ≡ self.old) × (disk.new ≡ disk.old) }
-        ensures work { IfSome (slot_for row.now.name self.old.rows) (λ slot. MakesChanges (change_to (slot, row.now) ∷ []) (done_in result) (put_fault result) self.old self.new (D.state disk.old) (D.state disk.new)) }
-        ensures ok { OnOk result (IfSome (slot_for row.now.name self.old.rows) (λ slot. self.new.rows ≡ with_row slot row.now self.old.rows)) }
+        ensures work { IfSome (slot_for row.now.name self.old.rows) (λ slot.
+            MakesChanges (change_to (slot, row.now) ∷ []) (done_in result) (put_fault result) self.old self.new (D.state disk.old) (D.state disk.new)) }
+        ensures ok { OnOk result (IfSome (slot_for row.now.name self.old.rows) (λ slot.
+            self.new.rows ≡ with_row slot row.now self.old.rows)) }
         ensures in_step { OnOk result (IsInStep (D.state disk.new) self.new.bytes) }
         ensures err { OnErr result (self.new.rows ≡ self.old.rows) }
     {
@@ -175,8 +179,10 @@ impl StoredKeys {
         requires { IsInStep (D.state disk.old) self.old.bytes }
         ensures absent { is_key_missing result ≡ is_none (slot_of name.now self.old.rows) }
         ensures refused { is_key_missing result ≡ true → (self.new ≡ self.old) × (disk.new ≡ disk.old) }
-        ensures work { IfSome (slot_of name.now self.old.rows) (λ slot. MakesChanges (erasure slot ∷ []) (done_in result) (remove_fault result) self.old self.new (D.state disk.old) (D.state disk.new)) }
-        ensures ok { OnOk result (IfSome (slot_of name.now self.old.rows) (λ slot. self.new.rows ≡ put_row slot None self.old.rows)) }
+        ensures work { IfSome (slot_of name.now self.old.rows) (λ slot.
+            MakesChanges (erasure slot ∷ []) (done_in result) (remove_fault result) self.old self.new (D.state disk.old) (D.state disk.new)) }
+        ensures ok { OnOk result (IfSome (slot_of name.now self.old.rows) (λ slot.
+            self.new.rows ≡ put_row slot None self.old.rows)) }
         ensures in_step { OnOk result (IsInStep (D.state disk.new) self.new.bytes) }
         ensures err { OnErr result (self.new.rows ≡ self.old.rows) }
     {
@@ -225,7 +231,8 @@ impl StoredKeys {
     fn erase_first<D: Disk>(&mut self, disk: &mut D) -> Result<(), DiskError>
         requires some { 0 < length self.old.rows }
         requires in_step { IsInStep (D.state disk.old) self.old.bytes }
-        ensures work { IfSome (slice_get self.old.rows 0) (λ first. MakesChanges (erasure first.0 ∷ []) (done_in result) (fault_in result) self.old self.new (D.state disk.old) (D.state disk.new)) }
+        ensures work { IfSome (lowest_row self.old.rows) (λ first.
+            MakesChanges (erasure first.0 ∷ []) (done_in result) (fault_in result) self.old self.new (D.state disk.old) (D.state disk.new)) }
         ensures rows { OnOk result (self.new.rows ≡ drop 1 self.old.rows) }
     {
         changed_bytes_show_changed_rows();
@@ -242,7 +249,7 @@ impl StoredKeys {
 // The slot of the first row.
 fn first_slot(keys: &KeyTable) -> u8
     requires { 0 < length keys.now }
-    ensures first { IfSome (slice_get keys.now 0) (λ first. result ≡ first.0) }
+    ensures first { IfSome (lowest_row keys.now) (λ first. result ≡ first.0) }
     ensures below { result < 64 }
     ensures table { IsTrue (is_table keys.now) }
 {

@@ -13,14 +13,18 @@ ghost use Rattle.pin_blocks.specs.declared.work.PinFault.TheVariants.{InvalidKey
 
 /// A check depends on no digit past its count: PINs that begin with the same digits, as many as the count, get one answer.
 pub fn check_depends_on_no_digit_past_its_count()
-    ensures { (check : CheckRequest) (first second key : List ℕ) → take check.count first ≡ take check.count second → checks tdea_bytes check first key ≡ checks tdea_bytes check second key }
+    ensures { (check : CheckRequest) (first second key : List ℕ) →
+        take check.count first ≡ take check.count second →
+        checks tdea_bytes check first key ≡ checks tdea_bytes check second key }
 {}
 
 /// The standard work refuses a PIN command by the PIN's length alone: never for the length of a key, which it does not look
 /// at.
 pub fn standard_work_refuses_no_key_length()
-    ensures never { (request : PinRequest) (size first : ℕ) (second : Option ℕ) → (standard_rules tdea_bytes).ready request size first second ≢ Err InvalidKeyLength }
-    ensures unseen { (request : PinRequest) (size first other_first : ℕ) (second other_second : Option ℕ) → (standard_rules tdea_bytes).ready request size first second ≡ (standard_rules tdea_bytes).ready request size other_first other_second }
+    ensures never { (request : PinRequest) (size first : ℕ) (second : Option ℕ) →
+        (standard_rules tdea_bytes).ready request size first second ≢ Err InvalidKeyLength }
+    ensures unseen { (request : PinRequest) (size first other_first : ℕ) (second other_second : Option ℕ) →
+        (standard_rules tdea_bytes).ready request size first second ≡ (standard_rules tdea_bytes).ready request size other_first other_second }
 {}
 
 /// The standard work admits no extra command.

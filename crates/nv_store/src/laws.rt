@@ -10,16 +10,24 @@ use disk_core::laws::splices;
 /// its new cell, whole. So a torn selector does no harm: each of its 256 values names a whole half. After a replacement
 /// the slot has the new cell, and each other its own.
 pub fn slots_stay_whole()
-    ensures torn { (bytes : List ℕ) (slot : ℕ) (cell torn : List ℕ) → length bytes ≡ DISK_BYTES → slot < 64 → length cell ≡ 96 → IsTorn bytes slot cell torn → HasOldOrNew bytes slot cell torn }
-    ensures replaced { (bytes : List ℕ) (slot : ℕ) (cell : List ℕ) → length bytes ≡ DISK_BYTES → slot < 64 → length cell ≡ 96 → HasNew bytes slot cell (with_cell bytes slot cell) }
+    ensures torn { (bytes : List ℕ) (slot : ℕ) (cell torn : List ℕ) →
+        length bytes ≡ DISK_BYTES → slot < 64 → length cell ≡ 96 → IsTorn bytes slot cell torn →
+        HasOldOrNew bytes slot cell torn }
+    ensures replaced { (bytes : List ℕ) (slot : ℕ) (cell : List ℕ) →
+        length bytes ≡ DISK_BYTES → slot < 64 → length cell ≡ 96 →
+        HasNew bytes slot cell (with_cell bytes slot cell) }
 {
     splices();
 }
 
 /// The test tells of all bytes of a disk whether they are torn.
 pub fn torn_bytes_are_told()
-    ensures torn { (bytes : List ℕ) (slot : ℕ) (cell torn : List ℕ) → length bytes ≡ DISK_BYTES → slot < 64 → length cell ≡ 96 → IsTorn bytes slot cell torn → IsTrue (is_torn bytes slot cell torn) }
-    ensures told { (bytes : List ℕ) (slot : ℕ) (cell torn : List ℕ) → length bytes ≡ DISK_BYTES → slot < 64 → length torn ≡ DISK_BYTES → IsTrue (is_torn bytes slot cell torn) → IsTorn bytes slot cell torn }
+    ensures torn { (bytes : List ℕ) (slot : ℕ) (cell torn : List ℕ) →
+        length bytes ≡ DISK_BYTES → slot < 64 → length cell ≡ 96 → IsTorn bytes slot cell torn →
+        IsTrue (is_torn bytes slot cell torn) }
+    ensures told { (bytes : List ℕ) (slot : ℕ) (cell torn : List ℕ) →
+        length bytes ≡ DISK_BYTES → slot < 64 → length torn ≡ DISK_BYTES → IsTrue (is_torn bytes slot cell torn) →
+        IsTorn bytes slot cell torn }
 {
     splices();
 }

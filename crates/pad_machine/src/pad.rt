@@ -72,7 +72,8 @@ impl Pad {
         ensures err { OnErr result (Undone self.old self.new out.old.items out.new.items) }
 
         // Memory is wanted by a Submit, by the Finish of CRYPT, and for places that are not spare.
-        ensures memory { takes_memory self.old.shared step.now ≡ false → places_for self.old.shared step.now ≤ out.old.spare → IsOk result }
+        ensures memory { takes_memory self.old.shared step.now ≡ false →
+            places_for self.old.shared step.now ≤ out.old.spare → IsOk result }
 
         // A step that was due leaves less to do, and a step draws one id at most.
         ensures less { OnOk result (is_off self.old.shared.device ≡ false → next_work self.old.shared ≡ Some step.now →
@@ -94,7 +95,8 @@ impl Pad {
 
     /// The step that is due: Finish of a command in work that is no entry, or Begin where nothing is in work and a request waits.
     pub fn next_work(&self) -> Option<Step>
-        ensures due { (seed : List ℕ) (state : Flat) → StandsFor self.now seed state → result ≡ next_work state.shared }
+        ensures due { (seed : List ℕ) (state : Flat) →
+            StandsFor self.now seed state → result ≡ next_work state.shared }
         ensures kept { result ≡ next_work self.now.shared }
         ensures taken { IfSome result (λ step. IsTrue (is_taken_today step)) }
         ensures on { IfSome result (λ step. is_off self.now.shared.device ≡ false) }
@@ -105,7 +107,8 @@ impl Pad {
 
     /// Whether the step is a press of an active digit of a running PIN entry.
     pub fn is_masked(&self, step: &Step) -> bool
-        ensures { (seed : List ℕ) (state : Flat) → StandsFor self.now seed state → result ≡ is_masked state.shared step.now }
+        ensures { (seed : List ℕ) (state : Flat) →
+            StandsFor self.now seed state → result ≡ is_masked state.shared step.now }
     {
         match step {
             Step::Press(key) => match self.parts.running_entry() {

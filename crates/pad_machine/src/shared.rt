@@ -156,7 +156,8 @@ impl Shared {
         requires ids { length self.old.requests < 2 ^ 32 - 2 }
         requires few { held ≤ 16 }
         ensures ready { IfOk result (λ prepared. IsReady self.old self.new held out.old out.new prepared) }
-        ensures does { IfOk result (λ prepared. (key : Key) → IsStep self.new held prepared (with_key step.entry key)) }
+        ensures does { IfOk result (λ prepared.
+            (key : Key) → IsStep self.new held prepared (with_key step.entry key)) }
         ensures err { OnErr result (IsUnready self.old self.new out.old out.new) }
         ensures memory { (key : Key) → takes_memory (shared_of self.old) (with_key step.entry key) ≡ false →
             places_for (shared_of self.old) (with_key step.entry key) ≤ out.old.spare → IsOk result }
@@ -177,7 +178,8 @@ impl Shared {
     fn prepare_press(&self, out: &mut Outs) -> Result<Prepared, NoMemory>
         requires { IsSound (shared_of self.now) }
         ensures ready { Prepares self.now self.now out.old out.new result }
-        ensures press { IfOk result (λ prepared. (held : ℕ) (key : Key) → IsStep self.now held prepared (Press key)) }
+        ensures press { IfOk result (λ prepared.
+            (held : ℕ) (key : Key) → IsStep self.now held prepared (Press key)) }
         ensures memory { 2 ≤ out.old.spare → IsOk result }
     {
         out.reserve(2)?;
@@ -247,7 +249,8 @@ impl Shared {
         requires taken { IsTrue (is_command_today command.now) }
         requires ids { length self.old.requests < 2 ^ 32 - 2 }
         ensures ready { Prepares self.old self.new out.old out.new result }
-        ensures does { IfOk result (AlwaysComesTo self.new (λ shared. next_submit pad_rules shared session limit command.now)) }
+        ensures does { IfOk result (AlwaysComesTo self.new (λ shared.
+            next_submit pad_rules shared session limit command.now)) }
     {
         out.reserve(1)?;
         if let Some(refusal) = self.session_refusal(session) {
@@ -304,9 +307,11 @@ impl Shared {
         requires sound { IsSound (shared_of self.now) }
         requires few { held ≤ 16 }
         ensures ready { IfOk result (λ prepared. IsReady self.now self.now held out.old out.new prepared) }
-        ensures does { IfOk result (λ prepared. ComesTo self.now held prepared (λ shared digits. next_finish (set_by zero_seed) shared digits Quiet)) }
+        ensures does { IfOk result (λ prepared.
+            ComesTo self.now held prepared (λ shared digits. next_finish (set_by zero_seed) shared digits Quiet)) }
         ensures err { OnErr result (IsUnready self.now self.now out.old out.new) }
-        ensures memory { takes_memory (shared_of self.now) FinishStep ≡ false → length self.now.sessions + 1 ≤ out.old.spare → IsOk result }
+        ensures memory { takes_memory (shared_of self.now) FinishStep ≡ false →
+            length self.now.sessions + 1 ≤ out.old.spare → IsOk result }
     {
         works_of_commands();
         out.reserve(self.sessions.len() + 1)?;
@@ -325,7 +330,8 @@ impl Shared {
     fn decide(&self, held: usize, command: &Command) -> Result<Work, NoMemory>
         requires admitted { IsTrue (is_admitted command.now) }
         requires few { held ≤ 16 }
-        ensures work { IfOk result (λ work. work ≡ work_of (set_by zero_seed) (shared_of self.now) held command.now) }
+        ensures work { IfOk result (λ work.
+            work ≡ work_of (set_by zero_seed) (shared_of self.now) held command.now) }
         ensures memory { is_crypt command.now ≡ false → IsOk result }
     {
         match command {
@@ -346,7 +352,8 @@ impl Shared {
     /// The session is opened. It listens to nothing, and sees no request that was drawn before.
     pub fn open(&mut self, session: Session)
         requires closed { is_open session self.old.sessions ≡ false }
-        ensures { shared_of self.new ≡ record (shared_of self.old) { sessions = with_session (opened session (length self.old.requests)) self.old.sessions } }
+        ensures { shared_of self.new
+            ≡ record (shared_of self.old) { sessions = with_session (opened session (length self.old.requests)) self.old.sessions } }
     {
         let _ = self.sessions.enter(session, self.requests.last_id());
     }
@@ -355,14 +362,16 @@ impl Shared {
     pub fn submit(&mut self, session: Session, limit: u32, command: Command) -> u32
         requires { MaySubmit self.old session }
         ensures id { result ≡ length self.old.requests + 1 }
-        ensures state { shared_of self.new ≡ record (shared_of self.old) { requests = submitted session 0 limit command self.old.requests } }
+        ensures state { shared_of self.new
+            ≡ record (shared_of self.old) { requests = submitted session 0 limit command self.old.requests } }
     {
         self.requests.submit_reserved(session, 0, limit, command)
     }
 
     /// The session hears these classes.
     pub fn listen(&mut self, session: Session, classes: Classes)
-        ensures { shared_of self.new ≡ record (shared_of self.old) { sessions = with_classes session classes self.old.sessions } }
+        ensures { shared_of self.new
+            ≡ record (shared_of self.old) { sessions = with_classes session classes self.old.sessions } }
     {
         let _ = self.sessions.listen(session, classes);
     }
@@ -370,7 +379,8 @@ impl Shared {
     /// The next request comes into work.
     pub fn begin(&mut self, id: u32)
         requires { IsNext self.old id }
-        ensures { shared_of self.new ≡ record (shared_of self.old) { requests = begun (holder_of self.old.line) self.old.requests } }
+        ensures { shared_of self.new
+            ≡ record (shared_of self.old) { requests = begun (holder_of self.old.line) self.old.requests } }
     {
         next_by_id::<Command, Reply>();
         self.requests.begin(id);
@@ -379,7 +389,8 @@ impl Shared {
     /// The next request ends with this refusal as it is taken.
     pub fn refuse_next(&mut self, id: u32, refusal: Refusal)
         requires { IsNext self.old id }
-        ensures { shared_of self.new ≡ record (shared_of self.old) { requests = refused_at_begin (ReplyNo refusal) (holder_of self.old.line) self.old.requests } }
+        ensures { shared_of self.new
+            ≡ record (shared_of self.old) { requests = refused_at_begin (ReplyNo refusal) (holder_of self.old.line) self.old.requests } }
     {
         next_by_id::<Command, Reply>();
         self.requests.finish(id, Reply::No(refusal));
@@ -397,7 +408,8 @@ impl Shared {
     /// The row is kept in the slot of its name. An import from the part buffer leaves it empty.
     pub fn keep(&mut self, slot: u8, row: &KeyRow, from_part: bool)
         requires { slot_for row.now.name self.old.keys ≡ Some slot }
-        ensures { shared_of self.new ≡ record (shared_of self.old) { keys = with_row slot row.now self.old.keys; part = if from_part then [] else self.old.part } }
+        ensures { shared_of self.new
+            ≡ record (shared_of self.old) { keys = with_row slot row.now self.old.keys; part = if from_part then [] else self.old.part } }
     {
         self.keys.keep(slot, row);
         if from_part {
@@ -424,7 +436,8 @@ impl Shared {
         requires room { 0 < out.old.spare }
         requires at { IsInWork self.old owner.id }
         requires same { told ≡ reply }
-        ensures state { shared_of self.new ≡ record (shared_of self.old) { requests = finished reply self.old.requests } }
+        ensures state { shared_of self.new
+            ≡ record (shared_of self.old) { requests = finished reply self.old.requests } }
         ensures items { out.new.items ≡ out.old.items ++ OutEnded owner.session owner.id reply ∷ [] }
         ensures spare { out.old.spare ≤ out.new.spare + 1 }
     {

@@ -41,7 +41,8 @@ fn is_invalid(request: &ImportRequest) -> bool
 // MODENOTSUPPORTED for cipher feedback; INVALIDDATA for an authentication code to decrypt, or a start value of another
 // algorithm than cipher block chaining.
 fn crypt_refusal(request: &CryptRequest) -> Option<Refusal>
-    ensures { result ≡ if is_cfb request.now.algorithm then Some ModeNotSupported else invalid_if (crypt_invalid request.now) }
+    ensures { result
+        ≡ if is_cfb request.now.algorithm then Some ModeNotSupported else invalid_if (crypt_invalid request.now) }
 {
     let has_start = !matches!(request.start, Start::Zero);
     match (request.algorithm, request.direction) {

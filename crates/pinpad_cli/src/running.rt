@@ -49,7 +49,8 @@ pub fn run_step<K: Sink>(
     ensures broke { OnErr result ((seed : List ℕ) (state : Flat) (rest : Player) → StandsFor pad.old seed state →
         BrokeOff seed state (step_then seed step.now rest) words.old.items words.new.items (counted_given K.given sink.old) (counted_given K.given sink.new)) }
     ensures later { counted_faults K.faults sink.old ≤ counted_faults K.faults sink.new }
-    ensures cause { IfErr result (λ stop. stop.fault ≡ Fault.Failed → Rose (counted_faults K.faults sink.old) (counted_faults K.faults sink.new)) }
+    ensures cause { IfErr result (λ stop.
+        stop.fault ≡ Fault.Failed → Rose (counted_faults K.faults sink.old) (counted_faults K.faults sink.new)) }
     ensures taken { IfErr result (λ stop. stop.taken ≡ true → (seed : List ℕ) (state : Flat) (rest : Player) → StandsFor pad.old seed state →
         Took seed state (step_then seed step.now rest) rest pad.new words.old.items words.new.items) }
     ensures less { OnOk result (is_off pad.old.shared.device ≡ false → next_work pad.old.shared ≡ Some step.now → work_left pad.new.shared.requests < work_left pad.old.shared.requests) }
@@ -104,7 +105,8 @@ pub fn run_auto<K: Sink>(
     ensures broke { OnErr result ((seed : List ℕ) (state : Flat) (rest : Player) → StandsFor pad.old seed state →
         BrokeOff seed state (auto_then seed rest) words.old.items words.new.items (counted_given K.given sink.old) (counted_given K.given sink.new)) }
     ensures later { counted_faults K.faults sink.old ≤ counted_faults K.faults sink.new }
-    ensures cause { IfErr result (λ stop. stop.fault ≡ Fault.Failed → Rose (counted_faults K.faults sink.old) (counted_faults K.faults sink.new)) }
+    ensures cause { IfErr result (λ stop.
+        stop.fault ≡ Fault.Failed → Rose (counted_faults K.faults sink.old) (counted_faults K.faults sink.new)) }
     ensures taken { IfErr result (λ stop. stop.taken ≡ true → (seed : List ℕ) (state : Flat) (rest : Player) → StandsFor pad.old seed state →
         Took seed state (auto_then seed rest) (auto_then seed rest) pad.new words.old.items words.new.items) }
     ensures ids { OnOk result (length pad.new.shared.requests ≤ length pad.old.shared.requests) }
@@ -133,7 +135,8 @@ pub fn run_line<K: Sink>(
     ensures broke { OnErr result ((seed : List ℕ) (state : Flat) (rest : Player) → StandsFor pad.old seed state →
         BrokeOff seed state (line_then seed line.now rest) words.old.items words.new.items (counted_given K.given sink.old) (counted_given K.given sink.new)) }
     ensures later { counted_faults K.faults sink.old ≤ counted_faults K.faults sink.new }
-    ensures cause { IfErr result (λ stop. stop.fault ≡ Fault.Failed → Rose (counted_faults K.faults sink.old) (counted_faults K.faults sink.new)) }
+    ensures cause { IfErr result (λ stop.
+        stop.fault ≡ Fault.Failed → Rose (counted_faults K.faults sink.old) (counted_faults K.faults sink.new)) }
     ensures taken { IfErr result (λ stop. stop.taken ≡ true → is_over line.now pad.new.shared ≡ true → (seed : List ℕ) (state : Flat) (rest : Player) → StandsFor pad.old seed state →
         Took seed state (line_then seed line.now rest) rest pad.new words.old.items words.new.items) }
     ensures ids { OnOk result (length pad.new.shared.requests ≤ length pad.old.shared.requests + 1) }
@@ -167,10 +170,13 @@ pub fn run_lines<K: Sink>(
     ensures broke { OnSome result.fault ((seed : List ℕ) (state : Flat) → StandsFor pad.old seed state →
         BrokeOff seed state (play seed lines.now) words.old.items words.new.items (counted_given K.given sink.old) (counted_given K.given sink.new)) }
     ensures lines { result.lines ≤ length lines.now }
-    ensures front { (seed : List ℕ) (state : Flat) → StandsFor pad.old seed state → PlaysFront seed state (take result.lines lines.now) words.old.items words.new.items }
+    ensures front { (seed : List ℕ) (state : Flat) →
+        StandsFor pad.old seed state →
+        PlaysFront seed state (take result.lines lines.now) words.old.items words.new.items }
     ensures all { IfNone result.fault (result.lines ≡ length lines.now) }
     ensures later { counted_faults K.faults sink.old ≤ counted_faults K.faults sink.new }
-    ensures cause { result.fault ≡ Some Fault.Failed → Rose (counted_faults K.faults sink.old) (counted_faults K.faults sink.new) }
+    ensures cause { result.fault ≡ Some Fault.Failed →
+        Rose (counted_faults K.faults sink.old) (counted_faults K.faults sink.new) }
 {
     let mut count = 0;
     for line in lines {

@@ -51,8 +51,10 @@ pub fn run_pinpad<S: Source, K: Sink>(
 
     // All was run: the source was read to its end, there is a word for each step, and the text of the steps was given.
     ensures read_to_end { result.status ≡ 0 → OnSome (S.left source.old) (S.left source.new ≡ Some []) }
-    ensures whole { result.status ≡ 0 → IfSome (S.left source.old) (λ script. has_word_per_step zero_seed script result.words ≡ true) }
-    ensures lines { result.status ≡ 0 → IfSome (S.left source.old) (λ script. result.line ≡ line_count (lines_of script)) }
+    ensures whole { result.status ≡ 0 →
+        IfSome (S.left source.old) (λ script. has_word_per_step zero_seed script result.words ≡ true) }
+    ensures lines { result.status ≡ 0 →
+        IfSome (S.left source.old) (λ script. result.line ≡ line_count (lines_of script)) }
     ensures printed { result.status ≡ 0 → IfSome (S.left source.old) (λ script.
         counted_given K.given sink.new ≡ with_more (counted_given K.given sink.old) (text_of zero_seed (steps_of zero_seed script result.words))) }
 
@@ -70,10 +72,12 @@ pub fn run_pinpad<S: Source, K: Sink>(
     ensures outside { result.status ≡ 1 → IfSome (S.left source.old) (λ script. lines_of script ≡ None) }
     ensures outside_gives_nothing { result.status ≡ 1 → sink.new ≡ sink.old }
     ensures outside_line { result.status ≡ 1 → result.line ≡ 0 }
-    ensures inside { (result.status ≡ 0) ⊎ (result.status ≡ 4) → IfSome (S.left source.old) (λ script. IsSome (lines_of script)) }
+    ensures inside { (result.status ≡ 0) ⊎ (result.status ≡ 4) →
+        IfSome (S.left source.old) (λ script. IsSome (lines_of script)) }
 
     // The lines that are counted are run whole: a front of the words is one for each of their steps.
-    ensures line_front { IfSome (S.left source.old) (λ script. IfSome (lines_of script) (λ lines. PlaysFront zero_seed ready_opening (take result.line lines) [] result.words)) }
+    ensures line_front { IfSome (S.left source.old) (λ script.
+        IfSome (lines_of script) (λ lines. PlaysFront zero_seed ready_opening (take result.line lines) [] result.words)) }
     ensures line_within { IfSome (S.left source.old) (λ script. result.line ≤ line_count (lines_of script)) }
 
     // Each fault has its cause, and where the source failed nothing was run.
@@ -81,7 +85,8 @@ pub fn run_pinpad<S: Source, K: Sink>(
     ensures source_fault_gives_nothing { result.status ≡ 3 → sink.new ≡ sink.old }
     ensures source_fault_runs_nothing { result.status ≡ 3 → result.words ≡ [] }
     ensures source_fault_line { result.status ≡ 3 → result.line ≡ 0 }
-    ensures sink_fault { result.status ≡ 4 → Rose (counted_faults K.faults sink.old) (counted_faults K.faults sink.new) }
+    ensures sink_fault { result.status ≡ 4 →
+        Rose (counted_faults K.faults sink.old) (counted_faults K.faults sink.new) }
 {
     if !is_replay(words) {
         return stopped(alloc, 2);
@@ -104,8 +109,10 @@ fn run_script<K: Sink>(alloc: Global, script: &[u8], sink: &mut Counted<K>) -> E
     ensures whole { result.status ≡ 0 → has_word_per_step zero_seed script.now result.words ≡ true }
     ensures lines { result.status ≡ 0 → result.line ≡ line_count (lines_of script.now) }
     ensures line_within { result.line ≤ line_count (lines_of script.now) }
-    ensures line_front { IfSome (lines_of script.now) (λ lines. PlaysFront zero_seed ready_opening (take result.line lines) [] result.words) }
-    ensures printed { result.status ≡ 0 → counted_given K.given sink.new ≡ with_more (counted_given K.given sink.old) (text_of zero_seed (steps_of zero_seed script.now result.words)) }
+    ensures line_front { IfSome (lines_of script.now) (λ lines.
+        PlaysFront zero_seed ready_opening (take result.line lines) [] result.words) }
+    ensures printed { result.status ≡ 0 →
+        counted_given K.given sink.new ≡ with_more (counted_given K.given sink.old) (text_of zero_seed (steps_of zero_seed script.now result.words)) }
     ensures front { GivesFront (counted_given K.given sink.old) (counted_given K.given sink.new) (text_of zero_seed (steps_of zero_seed script.now result.words)) }
     ensures cause { result.status ≡ 4 → Rose (counted_faults K.faults sink.old) (counted_faults K.faults sink.new) }
 {

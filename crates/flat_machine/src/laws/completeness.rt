@@ -1,30 +1,23 @@
 //! A command that meets none of its refusals comes into work, and is answered OK.
 
-ghost use Rattle.std.specs.Prelude.{◌≡◌, ℕ, Bool, IsTrue, List, None, Option, Some, [], false, length};
-ghost use Rattle.check_values.specs.CheckValues.{check_value};
+ghost use Rattle.std.specs.Prelude.{◌≡◌, ℕ, Bool, IsTrue, List, None, Some, [], false, length};
 ghost use Rattle.entry_core.specs.Entries.{Entry, entry_of, entry_refusal};
-ghost use Rattle.key_attributes.specs.declared.KeyRow.{KeyRow};
 ghost use Rattle.key_table.specs.KeyRows.{KeyRows, slot_of};
 ghost use Rattle.pad_steps.specs.declared.answers.Answer.TheVariants as answers;
 ghost use Rattle.pad_steps.specs.declared.answers.Event.TheVariants as events;
 ghost use Rattle.pad_steps.specs.declared.commands.Command.{Command};
 ghost use Rattle.pad_steps.specs.declared.commands.Command.TheVariants as commands;
-ghost use Rattle.pad_steps.specs.declared.commands.CryptRequest.{CryptRequest};
-ghost use Rattle.pad_steps.specs.declared.commands.ImportRequest.{ImportRequest};
-ghost use Rattle.pad_steps.specs.declared.commands.PinRequest.{PinRequest};
 ghost use Rattle.pad_steps.specs.declared.steps.DiskWord.{DiskWord};
 ghost use Rattle.pad_steps.specs.declared.steps.DiskWord.TheVariants as words;
 ghost use Rattle.pad_steps.specs.declared.steps.Step.TheVariants as steps;
 ghost use Rattle.request_queue.specs.Requests.{request_in_work};
 ghost use Rattle.request_queue.specs.declared.requests.Request.{Request};
-ghost use Rattle.flat_machine.specs.AccessFacts.{CryptIsReady, ImportIsReady, PinIsReady};
 ghost use Rattle.flat_machine.specs.Arms.{is_struck};
 ghost use Rattle.flat_machine.specs.Commands.{work_of};
-ghost use Rattle.flat_machine.specs.CompletionFacts.{Answers, IsAnsweredOk, IsInWork, IsInWorkFor, IsNext, goes_well};
-ghost use Rattle.flat_machine.specs.Crypts.{crypt_answer};
+ghost use Rattle.flat_machine.specs.CompletionFacts.{Answers, AnswersCrypt, AnswersImport, AnswersPin, IsAnsweredOk, IsInWork, IsInWorkFor, IsNext, goes_well};
 ghost use Rattle.flat_machine.specs.EntrySteps.{first_of};
+ghost use Rattle.flat_machine.specs.EveryRun.{AtEveryFinish};
 ghost use Rattle.flat_machine.specs.Machine.{fits, next};
-ghost use Rattle.flat_machine.specs.PinCommands.{pin_answer};
 ghost use Rattle.flat_machine.specs.RefusalFacts.{refusal_in};
 ghost use Rattle.flat_machine.specs.Sessions.{execute_event};
 ghost use Rattle.flat_machine.specs.Settings.{Setting};
@@ -48,17 +41,9 @@ pub fn finish_is_complete()
         refusal_in (work_of set state.shared (length state.held) request.command) ≡ None →
         IsTrue (fits set state.shared steps.Finish word) → IsTrue (goes_well word) →
         IsAnsweredOk request (next set state steps.Finish word) }
-    ensures pin { (set : Setting) (state : Flat) (word : DiskWord) (request : Request Command) (asked : PinRequest) (first : List ℕ) (second : Option (List ℕ)) (draws : ℕ) →
-        IsInWorkFor state.shared request (commands.Pin asked) →
-        PinIsReady set state.shared (length state.held) asked first second draws →
-        Answers request (pin_answer set state.shared.drawn state.held asked first second draws) (next set state steps.Finish word) }
-    ensures crypt { (set : Setting) (state : Flat) (word : DiskWord) (request : Request Command) (asked : CryptRequest) (key : List ℕ) (sealing : Option (List ℕ)) →
-        IsInWorkFor state.shared request (commands.Crypt asked) → CryptIsReady state.shared asked key sealing →
-        Answers request (crypt_answer set.cipher asked key sealing) (next set state steps.Finish word) }
-    ensures imported { (set : Setting) (state : Flat) (word : DiskWord) (request : Request Command) (asked : ImportRequest) (kek : Option (List ℕ)) (row : KeyRow) (slot : ℕ) →
-        IsInWorkFor state.shared request (commands.ImportKey asked) →
-        ImportIsReady set state.shared asked kek row slot → is_struck word ≡ false →
-        Answers request (answers.Key (check_value set.cipher.tdea asked.verify row.value)) (next set state steps.Finish word) }
+    ensures pin { AtEveryFinish AnswersPin }
+    ensures crypt { AtEveryFinish AnswersCrypt }
+    ensures imported { AtEveryFinish AnswersImport }
     ensures deletion { (set : Setting) (state : Flat) (word : DiskWord) (request : Request Command) (name : List ℕ) (slot : ℕ) →
         IsInWorkFor state.shared request (commands.DeleteKey name) → device_refusal state.shared.device ≡ None →
         slot_of name state.shared.keys ≡ Some slot → is_struck word ≡ false →

@@ -37,7 +37,8 @@ pub fn pin_is_left()
 
 /// A command that is refused leaves the held PIN; one that releases an answer uses it up, unless it is maintained.
 pub fn used_pin()
-    ensures refused { AtEveryFinish (λ set state word. WorkIs is_refusal set state → (after_step set state steps.Finish word).held ≡ state.held) }
+    ensures refused { AtEveryFinish (λ set state word.
+        WorkIs is_refusal set state → (after_step set state steps.Finish word).held ≡ state.held) }
     ensures used { AtEveryFinish (λ set state word.
         WorkIs is_release set state → state.shared.maintain ≡ false → (after_step set state steps.Finish word).held ≡ []) }
     ensures maintained { AtEveryFinish (λ set state word.

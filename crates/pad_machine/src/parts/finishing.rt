@@ -98,7 +98,8 @@ impl Parts {
     ) -> PinAnswer
         requires formed { IsTrue (is_pin_request request.now) }
         requires admitted { pad_rules.admit request.now ≡ None }
-        requires ready { pad_rules.ready request.now (length self.now.held) (length first.now) (option_map length (option_copied second)) ≡ Ok 0 }
+        requires ready { pad_rules.ready request.now (length self.now.held) (length first.now) (option_map length (option_copied second))
+            ≡ Ok 0 }
         ensures { result ≡ pad_rules.result request.now self.now.held first.now (option_copied second.entry) [] }
     {
         StandardWork.result(request, self.held.digits(), first, second, &[])
