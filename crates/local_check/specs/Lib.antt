@@ -1,2 +1,3 @@
 pub mod Checks
+pub mod FewWords
 pub mod StandardWork

@@ -19,8 +19,11 @@ pub struct StandardWork;
 impl PinWork for StandardWork {
     ghost use Rattle.des_core.specs.TripleDes.{tdea_bytes};
     ghost use Rattle.local_check.specs.StandardWork.{standard_rules};
+    ghost use Rattle.local_check.specs.FewWords.{standard_few};
 
     ghost rules = { standard_rules tdea_bytes };
+
+    ghost few_words = { standard_few };
 
     fn admit(&self, request: &PinRequest) -> Result<(), AdmitFault> {
         match request {

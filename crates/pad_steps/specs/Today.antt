@@ -59,7 +59,7 @@ abbrev pub is_source_today : ImportSource → Bool
 is_source_today origin.Part = false
 is_source_today other = true
 
--- a PIN entry, a block, CRYPT, an import, a deletion, or the RSA import
+-- a PIN entry, a block, CRYPT, an import, a deletion, the RSA import, INITIALIZATION, or RESET
 abbrev pub is_kind_today : Command → Bool
 is_kind_today (command.GetPin rules) = is_entry_today rules
 is_kind_today (command.Pin request) = is_pin_today request
@@ -67,6 +67,8 @@ is_kind_today (command.Crypt request) = true
 is_kind_today (command.ImportKey request) = is_source_today request.source
 is_kind_today (command.DeleteKey name) = true
 is_kind_today command.RsaImport = true
+is_kind_today command.Init = true
+is_kind_today command.Reset = true
 is_kind_today other = false
 
 -- a well-formed command of these kinds
@@ -88,6 +90,8 @@ is_line_today (step.Open session) = is_session_today session
 is_line_today (step.Listen session classes) = is_session_today session
 is_line_today (step.Submit session limit command) = is_session_today session && (limit == 0) && is_command_today command
 is_line_today (step.Press key) = is_key_today key
+is_line_today step.Off = true
+is_line_today step.Boot = true
 is_line_today other = false
 
 -- Begin or Finish, which `auto` takes

@@ -33,6 +33,13 @@ impl Rows {
         }
     }
 
+    /// The rows of this list, whose slots rise.
+    pub fn of(list: Vec<(u8, KeyRow)>) -> Rows
+        ensures { result ≡ list.items }
+    {
+        Rows { list }
+    }
+
     /// The rows in order, each behind its slot.
     pub fn items(&self) -> &[(u8, KeyRow)]
         ensures { result.now ≡ self.now }

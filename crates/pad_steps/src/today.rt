@@ -75,7 +75,8 @@ fn is_key_today(key: &Key) -> bool
     }
 }
 
-// a PIN entry, a block, CRYPT, an import that is not from the part buffer, a deletion, or the RSA import
+// a PIN entry, a block, CRYPT, an import that is not from the part buffer, a deletion, the RSA import, INITIALIZATION, or
+// RESET
 fn is_kind_today(command: &Command) -> bool
     ensures { result ≡ is_kind_today command.now }
 {
@@ -84,6 +85,7 @@ fn is_kind_today(command: &Command) -> bool
         Command::Pin(request) => is_pin_today(request),
         Command::ImportKey(request) => !matches!(request.source, ImportSource::Part),
         Command::Crypt(_) | Command::DeleteKey(_) | Command::RsaImport => true,
+        Command::Init | Command::Reset => true,
         _ => false,
     }
 }
@@ -109,6 +111,7 @@ impl Step {
                 is_session_today(session) && *limit == 0 && command.is_taken_today()
             }
             Step::Press(key) => is_key_today(key),
+            Step::Off | Step::Boot => true,
             _ => false,
         }
     }

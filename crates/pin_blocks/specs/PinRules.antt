@@ -4,7 +4,7 @@ use Rattle.pin_blocks.specs.declared.work.AdmitFault.{AdmitFault}
 use Rattle.pin_blocks.specs.declared.work.PinAnswer.{PinAnswer}
 use Rattle.pin_blocks.specs.declared.work.PinFault.{PinFault}
 use Rattle.pin_blocks.specs.declared.work.Wants.{Wants}
-use Rattle.std.specs.Prelude.{Err, List, None, Ok, Option, Result, Some, ℕ}
+use Rattle.std.specs.Prelude.{Err, List, None, Ok, Option, Result, Some, ℕ, ◌≡◌, ◌≤◌}
 
 -- `admit`: why a request is refused as it is submitted. `wants`: its keys and their use. `ready`: at this PIN length and these key lengths the number of fill words that it draws, or why it is refused. `result`: the answer for the digits, the key values and the fill words
 pub record PinRules : Type 0 where
@@ -17,3 +17,7 @@ pub record PinRules : Type 0 where
 abbrev pub fault_in : {A Fault : Type 0} → Result A Fault → Option Fault
 fault_in (Ok value) = None
 fault_in (Err why) = Some why
+
+-- no request draws more than 255 fill words
+abbrev pub DrawsFewWords : PinRules → Type 0
+DrawsFewWords rules = (request : PinRequest) (size first : ℕ) (second : Option ℕ) (draws : ℕ) → rules.ready request size first second ≡ Ok draws → draws ≤ 255

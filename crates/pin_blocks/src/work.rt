@@ -50,10 +50,13 @@ pub enum PinAnswer {
 /// What is done with a PIN. Nothing but `result` is handed a digit, and `result` cannot refuse: so no refusal depends on
 /// a digit, but only on the PIN's length. No call takes memory.
 pub trait PinWork {
-    ghost use Rattle.pin_blocks.specs.PinRules.{PinRules};
+    ghost use Rattle.pin_blocks.specs.PinRules.{DrawsFewWords, PinRules};
 
     /// The work as functions of what it is handed.
     ghost rules: { PinRules };
+
+    /// No request draws more than 255 fill words.
+    ghost few_words: { DrawsFewWords rules };
 
     /// Whether the request is admitted as it is submitted, or why not.
     fn admit(&self, request: &PinRequest) -> Result<(), AdmitFault>

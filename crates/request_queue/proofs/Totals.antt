@@ -56,6 +56,12 @@ module _ {C R : Type 0} where
   pending_count-total session (InWork q ∷ rows) = count-one (same_session q.session session) q (pending_where (λ p. same_session p.session session) rows) (total (weight session) rows) (pending_count-total session rows)
   pending_count-total session (Gone id owner reply ∷ rows) = let e : pending_count session rows ≡ total (weight session) rows = pending_count-total session rows in omega (arith, e)
 
+  pub pending-or-gone : (rows : List (RequestRow C R)) → length (pending_where (λ request. true) rows) + gone_count rows ≡ length rows
+  pending-or-gone [] = refl
+  pending-or-gone (Waiting q ∷ rows) = omega (arith, pending-or-gone rows)
+  pending-or-gone (InWork q ∷ rows) = omega (arith, pending-or-gone rows)
+  pending-or-gone (Gone id owner reply ∷ rows) = omega (arith, pending-or-gone rows)
+
   pub gone_count-total : (rows : List (RequestRow C R)) → gone_count rows ≡ total gone_weight rows
   gone_count-total [] = refl
   gone_count-total (Waiting q ∷ rows) = let e : gone_count rows ≡ total gone_weight rows = gone_count-total rows in omega (arith, e)

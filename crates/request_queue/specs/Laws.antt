@@ -1,10 +1,10 @@
 -- What the calls by id come to, in the words of the rows: for callers that follow the definition.
-use Rattle.request_queue.specs.Requests.{HasIds, begun, begun_by_id, eligible, ended_where, finished, first_where, has_id, pending_where, refused_at_begin, request_id, request_in_work}
+use Rattle.request_queue.specs.Requests.{HasIds, begun, begun_by_id, eligible, ended_where, finished, first_where, gone_count, has_id, pending_where, refused_at_begin, request_id, request_in_work}
 use Rattle.request_queue.specs.declared.requests.Request.{Request}
 use Rattle.request_queue.specs.declared.requests.RequestRow.{RequestRow}
 use Rattle.pad_words.specs.declared.numbers.Session.{Session}
 use Rattle.std.specs.Option.{option_map}
-use Rattle.std.specs.Prelude.{Bool, List, None, Option, Some, drop, ℕ, ◌≡◌}
+use Rattle.std.specs.Prelude.{Bool, List, None, Option, Some, drop, length, true, ℕ, ◌+◌, ◌≡◌}
 
 -- this is the id of the request that Begin takes
 abbrev pub IsEligible : {C R : Type 0} → Option Session → List (RequestRow C R) → ℕ → Type 0
@@ -62,3 +62,7 @@ IdsStayAtEnd C R =
 
 abbrev pub IdsStayAtBegin : Type 0 → Type 0 → Type 0
 IdsStayAtBegin C R = (id : ℕ) (rows : List (RequestRow C R)) → HasIds rows → HasIds (begun_by_id id rows)
+
+-- each request is pending, or it ended
+abbrev pub PendsOrEnded : Type 0 → Type 0 → Type 0
+PendsOrEnded C R = (rows : List (RequestRow C R)) → length (pending_where (λ request. true) rows) + gone_count rows ≡ length rows

@@ -1,5 +1,5 @@
 //! Laws of the rows, for callers. Each is a function with nothing to do, called for its clauses.
-ghost use Rattle.request_queue.specs.Laws.{EligibleIsBegun, EligibleIsRefused, FirstEnds, IdsStayAtBegin, IdsStayAtEnd, NoneIsLeft, OneLessIsLeft, WorkIsFinished};
+ghost use Rattle.request_queue.specs.Laws.{EligibleIsBegun, EligibleIsRefused, FirstEnds, IdsStayAtBegin, IdsStayAtEnd, NoneIsLeft, OneLessIsLeft, PendsOrEnded, WorkIsFinished};
 
 /// What the next request comes to: to begin it by its id is to begin it as Begin does, and to finish it by its id is to
 /// refuse it as it is taken.
@@ -26,4 +26,9 @@ pub fn one_after_another<C, R>()
 pub fn ids_stay<C, R>()
     ensures ended { IdsStayAtEnd C R }
     ensures begun { IdsStayAtBegin C R }
+{}
+
+/// Each request is pending, or it ended.
+pub fn pending_or_ended<C, R>()
+    ensures { PendsOrEnded C R }
 {}
