@@ -1,17 +1,20 @@
 -- What the table is after a row was put over another, put into the gap, or taken out.
 use Rattle.key_attributes.specs.declared.KeyRow.{KeyRow}
-use Rattle.key_table.proofs.FindLemmas.{find_key-present}
-use Rattle.key_table.proofs.GapLemmas.{insert-with_row, slot_for-gap}
+use Rattle.key_table.proofs.FindLemmas.{find_key-absent, find_key-present}
+use Rattle.key_table.proofs.GapLemmas.{insert-with_row, length-table, slot_for-gap}
 use Rattle.key_table.proofs.PlaceLemmas.{remove-filter, set-with_row}
 use Rattle.key_table.proofs.PutLemmas.{is_table-emptied, is_table-put}
 use Rattle.key_table.proofs.TableLemmas.{SlotRow, table_from}
 use Rattle.key_table.specs.KeyRows.{KeyRows, find_key, put_row, slot_for, with_row}
 use Rattle.key_table.specs.Places.{first_gap}
 use Rattle.key_table.specs.Tables.{is_table}
-use Rattle.std.proofs.Common.{set}
+use Rattle.std.proofs.Common.{arith, set, subst, sym}
+use Rattle.std.proofs.lemmas.Bool.{ltb-true}
 use Rattle.std.proofs.lemmas.List.Quantifiers.{position-Some}
-use Rattle.std.specs.List.{insert, position, remove}
-use Rattle.std.specs.Prelude.{IfSome, IsTrue, List, None, Some, bytes_eq, length, refl, slice_index_or, ℕ, ◌<◌, ◌≡◌}
+use Rattle.std.proofs.lemmas.Option.{cond_some}
+use Rattle.std.proofs.lemmas.Slice.Eq.{bytes_eq-Decides}
+use Rattle.std.specs.List.{insert, position, position_or_len, remove}
+use Rattle.std.specs.Prelude.{Bool, IfSome, IsTrue, List, None, Some, [], bytes_eq, length, nat_lt, refl, slice_index_or, suc, true, zero, ℕ, ◌<◌, ◌∷◌, ◌≡◌, ◌≤◌}
 
 -- the row of this name stands at this place
 pub record StandsAt (name : List ℕ) (rows : KeyRows) (place : ℕ) (found : SlotRow) : Type 0 where
@@ -20,6 +23,30 @@ pub record StandsAt (name : List ℕ) (rows : KeyRows) (place : ℕ) (found : Sl
 
 within : (name : List ℕ) (rows : KeyRows) (place : ℕ) (found : SlotRow) → StandsAt name rows place found → place < length rows
 within name rows place found stands = (position-Some (λ (row : SlotRow). bytes_eq row.1.name name) rows place found stands.place_is).0
+
+-- the row at a place
+pub element : (rows : KeyRows) (place : ℕ) → place < length rows → (row : SlotRow) × (row ≡ slice_index_or rows place row)
+element [] place within = absurd (omega (arith, within))
+element (r ∷ rows) zero within = (r, refl)
+element (r ∷ rows) (suc place) within = element rows place (omega (arith, within))
+
+pub position_within : (test : SlotRow → Bool) (rows : KeyRows) (place : ℕ) → position test rows ≡ Some place → place < length rows
+position_within test rows place e =
+    let parts = cond_some (nat_lt (position_or_len test rows) (length rows)) (position_or_len test rows) place e in
+    subst (λ (n : ℕ). n < length rows) parts.1 (ltb-true (position_or_len test rows) (length rows) parts.0)
+
+-- where it was found
+pub stands_at : (name : List ℕ) (rows : KeyRows) (place : ℕ) → position (λ (row : SlotRow). bytes_eq row.1.name name) rows ≡ Some place → (found : SlotRow) × StandsAt name rows place found
+stands_at name rows place e =
+    let found = element rows place (position_within (λ (row : SlotRow). bytes_eq row.1.name name) rows place e) in
+    (found.0, record { place_is = e; at = found.1 })
+
+-- and has the name
+pub stands_named : (name : List ℕ) (rows : KeyRows) (place : ℕ) (found : SlotRow) → StandsAt name rows place found → (place < length rows) × (name ≡ found.1.name)
+stands_named name rows place found stands = (
+  within name rows place found stands,
+  sym ((bytes_eq-Decides found.1.name name).0 (subst (λ (each : SlotRow). bytes_eq each.1.name name ≡ true) (sym stands.at) (position-Some (λ (row : SlotRow). bytes_eq row.1.name name) rows place found stands.place_is).1)),
+)
 
 pub find_key-stands : (name : List ℕ) (rows : KeyRows) (place : ℕ) (found : SlotRow) → StandsAt name rows place found → find_key name rows ≡ Some found
 find_key-stands name rows place found stands = find_key-present name rows place found stands.place_is stands.at
@@ -46,6 +73,13 @@ pub record IsGapFor (name : List ℕ) (rows : KeyRows) (gap : ℕ) : Type 0 wher
   pub absent : find_key name rows ≡ None
   pub first : gap ≡ first_gap 0 rows
   pub below : gap < 64
+
+-- an absent name gets the first gap of a table that is not full
+pub first_gap_for : (name : List ℕ) (rows : KeyRows) (count gap : ℕ) → IsTrue (is_table rows) → position (λ (row : SlotRow). bytes_eq row.1.name name) rows ≡ None → length rows ≡ count → (count ≡ 64 → ⊥) → gap ≡ first_gap 0 rows → gap ≤ length rows → IsGapFor name rows gap × length rows < 64
+first_gap_for name rows count gap table absent counted more first within =
+    let most = length-table rows table in
+    let few : length rows < 64 = omega (arith, most, counted, more) in
+    (record { absent = find_key-absent name rows absent; first = first; below = omega (arith, within, few) }, few)
 
 pub slot_for-first_gap : (name : List ℕ) (rows : KeyRows) (gap : ℕ) → IsTrue (is_table rows) → IsGapFor name rows gap → slot_for name rows ≡ Some gap
 slot_for-first_gap name rows gap is fits = slot_for-gap name rows gap (table_from rows is) fits.absent fits.first fits.below

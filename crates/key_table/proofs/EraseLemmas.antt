@@ -16,7 +16,7 @@ use Rattle.std.proofs.Common.{add-one, ap, arith, subst, sym, ◌∙◌}
 use Rattle.std.proofs.lemmas.Bool.{eq-eqb, eqb-true}
 use Rattle.std.proofs.lemmas.List.{length-drop, length-take-le, take_all}
 use Rattle.std.specs.Option.{option_map}
-use Rattle.std.specs.Prelude.{Bool, IfSome, IsTrue, List, None, Option, Some, [], cond, drop, false, length, not, refl, slice_get, suc, take, true, zero, ℕ, ◌*◌, ◌+◌, ◌<◌, ◌==◌, ◌∷◌, ◌≡◌, ◌≤◌}
+use Rattle.std.specs.Prelude.{Err, Ok, OnOk, Result, Bool, IfSome, IsTrue, List, None, Option, Some, [], cond, drop, false, length, not, refl, slice_get, suc, take, true, zero, ℕ, ◌*◌, ◌+◌, ◌<◌, ◌==◌, ◌∷◌, ◌≡◌, ◌≤◌}
 
 -- one change more
 
@@ -148,6 +148,16 @@ erasure_at zero (r ∷ rows) first e = ap (λ (o : Option SlotRow). option_map (
 erasure_at (suc n) [] first e = cc
 erasure_at (suc n) (r ∷ rows) first e = erasure_at n rows first e
 
+-- the first row that is left is the next one of all
+pub erasure_left : (n : ℕ) (old new : KeyRows) → new ≡ drop n old → slice_get (erasures old) n ≡ option_map (λ (row : SlotRow). erasure row.0) (lowest_row new)
+erasure_left n old new is = at n old ∙ ap (λ (l : KeyRows). option_map (λ (row : SlotRow). erasure row.0) (lowest_row l)) (sym is)
+  where
+    at : (n : ℕ) (rows : KeyRows) → slice_get (erasures rows) n ≡ option_map (λ (row : SlotRow). erasure row.0) (lowest_row (drop n rows))
+    at zero [] = refl
+    at zero (r ∷ rows) = refl
+    at (suc n) [] = refl
+    at (suc n) (r ∷ rows) = at n rows
+
 drop_one : (n : ℕ) (rows : KeyRows) → drop 1 (drop n rows) ≡ drop (suc n) rows
 drop_one zero rows = refl
 drop_one (suc n) [] = refl
@@ -163,3 +173,8 @@ some_left n old mid is within = omega (arith, ap length is, length-drop n old, w
 pub with_first : (n : ℕ) (old mid : KeyRows) (P : Change → Type 0) (Q : Type 0) → mid ≡ drop n old → n < length old → ((c : Change) → slice_get (erasures old) n ≡ Some c → P c → Q) → IfSome (slice_get mid 0) (λ first. P (erasure first.0)) → Q
 with_first n old [] P Q is within then given = absurd (omega (arith, ap length is, length-drop n old, within))
 with_first n old (r ∷ rows) P Q is within then given = then (erasure r.0) (erasure_at n old r (ap (λ (l : KeyRows). slice_get l 0) (sym is))) given
+
+-- where it is done, the rows are these, by another name
+pub rows_as : {T E : Type 0} → (rows one other : KeyRows) (result : Result T E) → OnOk result (rows ≡ one) → one ≡ other → OnOk result (rows ≡ other)
+rows_as rows one other (Ok x) is same = is ∙ same
+rows_as rows one other (Err e) is same = tt

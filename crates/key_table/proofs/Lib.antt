@@ -1,3 +1,4 @@
+pub mod ChainLemmas
 pub mod ChangeLemmas
 pub mod EraseLemmas
 pub mod FindLemmas
@@ -6,7 +7,9 @@ pub mod KeyStoreLemmas
 pub mod LoadLemmas
 pub mod PlaceLemmas
 pub mod PutLemmas
+pub mod RowListLemmas
 pub mod ScanLemmas
 pub mod SlotLemmas
+pub mod SlotIndexLemmas
 pub mod StoredLemmas
 pub mod TableLemmas

@@ -7,7 +7,7 @@ use Rattle.std.proofs.lemmas.Bool.{eq-eqb, le-ltb, ne_eqb}
 use Rattle.std.specs.List.{filter, remove}
 use Rattle.std.specs.Prelude.{[], length, not, refl, slice_index_or, suc, zero, ℕ, ◌<◌, ◌==◌, ◌∷◌, ◌≡◌}
 
-above_at : (n i : ℕ) (rows : KeyRows) (row : SlotRow) → Above n rows → i < length rows → row ≡ slice_index_or rows i row → n < row.0
+pub above_at : (n i : ℕ) (rows : KeyRows) (row : SlotRow) → Above n rows → i < length rows → row ≡ slice_index_or rows i row → n < row.0
 above_at n i [] row over within at = absurd (omega (arith, within))
 above_at n zero (r ∷ rows) row over within at = rw at over.0
 above_at n (suc i) (r ∷ rows) row over within at = above_at n i rows row over.1 (omega (arith, within)) at

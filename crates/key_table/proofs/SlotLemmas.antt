@@ -21,7 +21,7 @@ put_row-none slot (row ∷ rows) e = left_if (row.0 == slot) row slot rows e (pu
 pub put_row-absent : (slot : ℕ) (rows : KeyRows) → position (λ row. row.0 == slot) rows ≡ None → put_row slot None rows ≡ rows
 put_row-absent slot rows e = put_row-none slot rows (row_in-absent slot rows e)
 
-same_slot : (n m : ℕ) → (n == m) ≡ true → n ≡ m
+pub same_slot : (n m : ℕ) → (n == m) ≡ true → n ≡ m
 same_slot n m e = grind arith
 
 pub put_row-present : (slot : ℕ) (rows : KeyRows) (place : ℕ) (row : SlotRow) → IsTrue (is_table rows) → position (λ row. row.0 == slot) rows ≡ Some place → row ≡ slice_index_or rows place row → remove rows place ≡ put_row slot None rows

@@ -106,7 +106,7 @@ pub free-only_at : (slot : ℕ) (name : List ℕ) (rows : KeyRows) → Free name
 free-only_at slot name [] h = tt
 free-only_at slot name (r ∷ rows) h = ((λ e. absurd (h.0 e)), free-only_at slot name rows h.1)
 
-above-lower : (m n : ℕ) (rows : KeyRows) → m < n → Above n rows → Above m rows
+pub above-lower : (m n : ℕ) (rows : KeyRows) → m < n → Above n rows → Above m rows
 above-lower m n [] l h = tt
 above-lower m n (r ∷ rows) l h = (omega (arith, l, h.0), above-lower m n rows l h.1)
 

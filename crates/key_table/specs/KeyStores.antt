@@ -1,12 +1,12 @@
 -- A key table over a store, and what its calls do to the disk.
-use Rattle.disk_core.specs.DiskStates.{DiskState, EachImage}
-use Rattle.disk_core.specs.Disks.{DeviceCalls, struck_within}
+use Rattle.disk_core.specs.DiskStates.{DiskState, EachImage, Shrinks}
+use Rattle.disk_core.specs.Disks.{DeviceCalls, KeepsContent, struck_within}
 use Rattle.disk_core.specs.declared.disk.DiskError.{DiskError}
 use Rattle.key_record.specs.Records.{spelled}
 use Rattle.key_attributes.specs.declared.KeyRow.{KeyRow}
 use Rattle.key_table.specs.Changes.{Change, changed}
 use Rattle.key_table.specs.KeyRows.{KeyRows}
-use Rattle.key_table.specs.StoredRows.{ShowsOldOrNew, put_bytes, rows_of}
+use Rattle.key_table.specs.StoredRows.{ShowsOldOrNew, bad_slot, put_bytes, rows_of}
 use Rattle.key_table.specs.declared.LoadFault.{LoadFault}
 use Rattle.key_table.specs.declared.LoadFault.TheVariants as load
 use Rattle.key_table.specs.declared.PutFault.{PutFault}
@@ -16,7 +16,7 @@ use Rattle.key_table.specs.declared.RemoveFault.TheVariants as remove
 use Rattle.nv_store.specs.Cells.{IsTorn}
 use Rattle.nv_store.specs.Stores.{IsInStep}
 use Rattle.std.specs.Option.{option_map}
-use Rattle.std.specs.Prelude.{Bool, Err, IfSome, List, None, Ok, Option, Result, Some, [], false, is_some, length, slice_get, take, true, ℕ, ◌*◌, ◌+◌, ◌<◌, ◌∷◌, ◌≡◌}
+use Rattle.std.specs.Prelude.{Bool, Err, IfSome, List, None, Ok, OnErr, OnOk, Option, Result, Some, [], false, is_some, length, slice_get, take, true, ℕ, ◌*◌, ◌+◌, ◌<◌, ◌∷◌, ◌≡◌}
 
 -- the rows of a table, and the bytes of its store, where it is settled
 pub record KeyStore : Type 0 where
@@ -107,3 +107,17 @@ abbrev pub bad_slot_in : {T : Type 0} → Result T LoadFault → Option ℕ
 bad_slot_in (Ok x) = None
 bad_slot_in (Err (load.Disk fault)) = None
 bad_slot_in (Err (load.BadStore slot)) = Some slot
+
+-- what a loading of a store led to: after it the bytes that were read are the only image, were an image before, and show the rows; refused, the rows are those of before
+pub record LoadsStore {T : Type 0} (result : Result T LoadFault) (old new : KeyStore) (s t : DiskState) : Type 0 where
+  -- a sync and a read
+  pub calls : DeviceCalls 2 s t (load_fault result)
+  pub image : Shrinks s t
+  pub content : KeepsContent s t
+  pub in_step : OnOk result (IsInStep t new.bytes)
+  pub shows : OnOk result (IfSome new.bytes (λ bytes. rows_of bytes ≡ Some new.rows))
+  pub was_image : OnOk result (IfSome new.bytes (λ bytes. IfSome s.content (λ _. s.image bytes)))
+  -- the slot is the lowest bad one of each image
+  pub bad : IfSome (bad_slot_in result) (λ slot. EachImage t (λ bytes. bad_slot bytes ≡ Some slot))
+  pub kept : OnErr result (new.rows ≡ old.rows)
+  pub unsettled : OnErr result (new.bytes ≡ None)

@@ -4,6 +4,7 @@ pub mod KeyRows
 pub mod KeyStores
 pub mod Permits
 pub mod Places
+pub mod SlotIndexes
 pub mod StoredRows
 pub mod Tables
 pub use Rattle.disk_core.specs.DiskStates

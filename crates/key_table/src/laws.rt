@@ -2,7 +2,7 @@
 ghost use Rattle.std.specs.Prelude.{◌≡◌, ◌≢◌, ◌<◌, IfSome, IsTrue, List, None, Option, Some, is_none, is_some, length, ℕ};
 ghost use Rattle.key_attributes.specs.declared.KeyRow.{KeyRow};
 ghost use Rattle.key_record.specs.Records.{IsRow, spelled};
-ghost use Rattle.key_table.specs.KeyRows.{KeyRows, find_key, find_row, put_row, slot_for, with_row};
+ghost use Rattle.key_table.specs.KeyRows.{KeyRows, find_key, find_row, put_row, slot_for, slot_of, with_row};
 ghost use Rattle.key_table.specs.StoredRows.{HasCells, ShowsOldOrNew, bad_slot, put_bytes, rows_of};
 ghost use Rattle.key_table.specs.Tables.{is_table};
 ghost use Rattle.nv_store.specs.Cells.{IsTorn};
@@ -39,6 +39,12 @@ pub fn removed_name_is_gone()
     ensures others { (rows : KeyRows) (name other : List ℕ) →
         IsTrue (is_table rows) → other ≢ name →
         IfSome (find_key name rows) (λ found. find_row other (put_row found.0 None rows) ≡ find_row other rows) }
+{}
+
+/// A name that is present stands in one of 64 slots.
+pub fn names_stand_in_slots()
+    ensures { (rows : KeyRows) (name : List ℕ) (slot : ℕ) →
+        IsTrue (is_table rows) → slot_of name rows ≡ Some slot → slot < 64 }
 {}
 
 /// Bytes show a table, or have a bad slot. A table is shown exactly where each cell is the record of the row in its slot.

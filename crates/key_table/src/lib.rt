@@ -5,7 +5,9 @@
 pub mod laws;
 mod loading;
 mod replacing;
+mod row_lists;
 mod searching;
+mod slot_index;
 mod stored_keys;
 #[cfg(test)]
 mod stored_tests;
@@ -14,6 +16,7 @@ mod table;
 mod tests;
 
 use disk_core::DiskError;
+pub use row_lists::{copy_rows, put_row, same_rows};
 pub use stored_keys::StoredKeys;
 pub use table::KeyTable;
 

@@ -1,18 +1,10 @@
-//! Where a row stands in the rising slots, and where the first gap is.
-ghost use Rattle.std.specs.Prelude.{◌≡◌, ◌==◌, ◌≤◌, bytes_eq, length};
+//! Where a row stands or is to stand in the rising slots, and where the first gap is.
+ghost use Rattle.std.specs.Prelude.{◌≡◌, ◌==◌, ◌≤◌, length};
 ghost use Rattle.std.specs.List.{position};
 ghost use Rattle.key_table.specs.Duplicates.{is_duplicate};
-ghost use Rattle.key_table.specs.Places.{first_gap};
+ghost use Rattle.key_table.specs.Places.{first_gap, place_in_order};
 
 use key_attributes::KeyRow;
-use pad_words::KeyName;
-
-/// The place of the row of this name, if the name is present.
-pub fn place_of_name(rows: &[(u8, KeyRow)], name: &KeyName) -> Option<usize>
-    ensures { result ≡ position (λ row. bytes_eq row.1.name name.now) rows.now }
-{
-    rows.iter().position(|row| row.1.name.text() == name.text())
-}
 
 /// The place of the row in this slot, if one stands there.
 pub fn place_of_slot(rows: &[(u8, KeyRow)], slot: u8) -> Option<usize>
@@ -35,6 +27,18 @@ pub fn place_of_gap(rows: &[(u8, KeyRow)]) -> usize
 {
     let mut place = 0;
     while place < rows.len() && usize::from(rows[place].0) == place {
+        place += 1;
+    }
+    place
+}
+
+/// The place of a slot among the rising ones: the number of first rows that stand below it.
+pub fn place_in_order(rows: &[(u8, KeyRow)], slot: u8) -> usize
+    ensures place { result ≡ place_in_order slot rows.now }
+    ensures within { result ≤ length rows.now }
+{
+    let mut place = 0;
+    while place < rows.len() && rows[place].0 < slot {
         place += 1;
     }
     place

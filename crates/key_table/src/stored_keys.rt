@@ -1,12 +1,12 @@
 //! The key table over a store.
-ghost use Rattle.std.specs.Prelude.{◌≡◌, ◌∷◌, [], Err, IfErr, IfNone, IfOk, IfSome, IsSome, IsTrue, None, Ok, OnErr, OnOk, OnSome, Some, drop, false, is_none, is_some, length, true, ◌<◌};
-ghost use Rattle.std.specs.Option.{option_copied};
+ghost use Rattle.std.specs.Prelude.{◌≡◌, ◌∷◌, [], Err, IfErr, IfNone, IfOk, IfSome, IsSome, IsTrue, None, Ok, OnErr, OnOk, OnSome, Some, drop, false, is_none, is_some, length, slice_get, true, ◌<◌, ◌≤◌};
+ghost use Rattle.std.specs.Option.{option_copied, option_map};
 ghost use Rattle.disk_core.specs.DiskStates.{EachImage, Shrinks};
 ghost use Rattle.disk_core.specs.Disks.{DeviceCalls, KeepsContent, fault_in};
 ghost use Rattle.key_table.specs.Changes.{change_to, erasure, erasures};
 ghost use Rattle.key_table.specs.Duplicates.{duplicate};
 ghost use Rattle.key_table.specs.KeyRows.{find_row, put_row, row_in, slot_for, slot_of, with_row};
-ghost use Rattle.key_table.specs.KeyStores.{MakesChanges, bad_slot_in, done_in, is_key_missing, is_table_full, load_fault, lowest_row, put_fault, remove_fault};
+ghost use Rattle.key_table.specs.KeyStores.{LoadsStore, MakesChanges, done_in, is_key_missing, is_table_full, lowest_row, put_fault, remove_fault};
 ghost use Rattle.key_table.specs.Permits.{permit};
 ghost use Rattle.key_table.specs.StoredRows.{bad_slot, rows_of};
 ghost use Rattle.key_table.specs.Tables.{is_table};
@@ -59,9 +59,10 @@ impl StoredKeys {
         }
     }
 
-    /// Whether it is known what the disk has.
+    /// Whether it is known what the disk has. Then its bytes show the rows.
     pub fn settled(&self) -> bool
-        ensures { result ≡ is_some self.now.bytes }
+        ensures settled { result ≡ is_some self.now.bytes }
+        ensures shows { IfSome self.now.bytes (λ bytes. rows_of bytes ≡ Some self.now.rows) }
     {
         self.store.settled()
     }
@@ -79,6 +80,7 @@ impl StoredKeys {
     pub fn rows(&self) -> &[(u8, KeyRow)]
         ensures rows { result.now ≡ self.now.rows }
         ensures table { IsTrue (is_table self.now.rows) }
+        ensures few { length self.now.rows ≤ 64 }
     {
         self.keys.rows()
     }
@@ -105,6 +107,21 @@ impl StoredKeys {
         self.keys.permit(name, wanted)
     }
 
+    /// The slot of this name, if the name is present.
+    pub fn slot_of(&self, name: &KeyName) -> Option<u8>
+        ensures { result ≡ slot_of name.now self.now.rows }
+    {
+        self.keys.slot_of(name)
+    }
+
+    /// The slot of a row of this name: a present name keeps its slot, a new one takes the lowest empty slot. None where the
+    /// name is absent and all 64 slots are taken.
+    pub fn slot_for(&self, name: &KeyName) -> Option<u8>
+        ensures { result ≡ slot_for name.now self.now.rows }
+    {
+        self.keys.slot_for(name)
+    }
+
     /// The name in the lowest slot whose key makes this row a forbidden duplicate. None where there is none.
     pub fn duplicate(&self, row: &KeyRow) -> Option<KeyName>
         ensures { result ≡ duplicate row.now self.now.rows }
@@ -115,17 +132,7 @@ impl StoredKeys {
     /// Loads the rows of a store, by a sync and one read. The bytes that were read are then the only ones that a crash
     /// leaves, and were one of its images before. Where it is refused, the rows are those of before.
     pub fn load<D: Disk>(&mut self, disk: &mut D) -> Result<(), LoadFault>
-        ensures calls { DeviceCalls 2 (D.state disk.old) (D.state disk.new) (load_fault result) }
-        ensures image { Shrinks (D.state disk.old) (D.state disk.new) }
-        ensures content { KeepsContent (D.state disk.old) (D.state disk.new) }
-        ensures in_step { OnOk result (IsInStep (D.state disk.new) self.new.bytes) }
-        ensures shows { OnOk result (IfSome self.new.bytes (λ bytes. rows_of bytes ≡ Some self.new.rows)) }
-        ensures was_image { OnOk result (IfSome self.new.bytes (λ bytes.
-            IfSome (D.state disk.old).content (λ _. (D.state disk.old).image bytes))) }
-        ensures bad { IfSome (bad_slot_in result) (λ slot.
-            EachImage (D.state disk.new) (λ bytes. bad_slot bytes ≡ Some slot)) }
-        ensures kept { OnErr result (self.new.rows ≡ self.old.rows) }
-        ensures err { OnErr result (self.new.bytes ≡ None) }
+        ensures { LoadsStore result self.old self.new (D.state disk.old) (D.state disk.new) }
     {
         bytes_show_rows();
         match self.store.load(disk) {
@@ -186,14 +193,31 @@ impl StoredKeys {
         ensures in_step { OnOk result (IsInStep (D.state disk.new) self.new.bytes) }
         ensures err { OnErr result (self.new.rows ≡ self.old.rows) }
     {
-        changed_bytes_show_changed_rows();
         let _rows = self.keys.rows();
         let Some(slot) = self.keys.slot_of(name) else {
             return Err(RemoveFault::KeyNotFound);
         };
+        match self.erase(disk, slot) {
+            Ok(()) => Ok(()),
+            Err(fault) => Err(RemoveFault::Disk(fault)),
+        }
+    }
+
+    /// Empties the slot, whatever stands there, by four device calls. After a fault or a cut the rows are those of before, and
+    /// a crash leaves these or those without the slot's.
+    pub fn erase<D: Disk>(&mut self, disk: &mut D, slot: u8) -> Result<(), DiskError>
+        requires below { slot < 64 }
+        requires in_step { IsInStep (D.state disk.old) self.old.bytes }
+        ensures work { MakesChanges (erasure slot ∷ []) (done_in result) (fault_in result) self.old self.new (D.state disk.old) (D.state disk.new) }
+        ensures ok { OnOk result (self.new.rows ≡ put_row slot None self.old.rows) }
+        ensures in_step { OnOk result (IsInStep (D.state disk.new) self.new.bytes) }
+        ensures err { OnErr result (self.new.rows ≡ self.old.rows) }
+    {
+        changed_bytes_show_changed_rows();
+        let _rows = self.keys.rows();
         match replace_row(&mut self.store, disk, slot, None) {
             Ok(()) => {}
-            Err(fault) => return Err(RemoveFault::Disk(fault)),
+            Err(fault) => return Err(fault),
         }
         self.keys.erase(slot);
         Ok(())
@@ -206,6 +230,9 @@ impl StoredKeys {
         requires in_step { IsInStep (D.state disk.old) self.old.bytes }
         ensures work { MakesChanges (erasures self.old.rows) result.count result.fault self.old self.new (D.state disk.old) (D.state disk.new) }
         ensures rows { self.new.rows ≡ drop result.count self.old.rows }
+
+        // The first row that is left is the one that was struck.
+        ensures struck { slice_get (erasures self.old.rows) result.count ≡ option_map (λ row. erasure row.0) (lowest_row self.new.rows) }
         ensures in_step { IfNone result.fault (IsInStep (D.state disk.new) self.new.bytes) }
     {
         calls_are_runs::<D>();
@@ -235,14 +262,8 @@ impl StoredKeys {
             MakesChanges (erasure first.0 ∷ []) (done_in result) (fault_in result) self.old self.new (D.state disk.old) (D.state disk.new)) }
         ensures rows { OnOk result (self.new.rows ≡ drop 1 self.old.rows) }
     {
-        changed_bytes_show_changed_rows();
         let slot = first_slot(&self.keys);
-        match replace_row(&mut self.store, disk, slot, None) {
-            Ok(()) => {}
-            Err(fault) => return Err(fault),
-        }
-        self.keys.erase(slot);
-        Ok(())
+        self.erase(disk, slot)
     }
 }
 

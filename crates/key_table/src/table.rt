@@ -1,12 +1,18 @@
 //! The table of keys.
-ghost use Rattle.std.specs.Prelude.{◌≡◌, ◌&&◌, ◌==◌, [], Err, IfErr, IfOk, IfSome, IsTrue, None, Ok, OnErr, OnOk, Some, is_err, is_none, length, vec_capacity, ◌≤◌};
+ghost use Rattle.std.specs.Prelude.{◌≡◌, ◌&&◌, ◌==◌, [], Err, IfErr, IfOk, IfSome, IsTrue, None, Ok, OnErr, OnOk, Some, is_err, is_none, length, take, vec_capacity, ◌<◌, ◌≤◌};
+ghost use Rattle.std.specs.List.{insert, remove};
 ghost use Rattle.std.specs.Option.{option_copied};
 ghost use Rattle.key_table.specs.Duplicates.{duplicate};
 ghost use Rattle.key_table.specs.KeyRows.{find_key, find_row, put_row, row_in, slot_for, slot_of, with_row};
 ghost use Rattle.key_table.specs.Permits.{permit};
+ghost use Rattle.key_table.specs.SlotIndexes.{last_in};
 ghost use Rattle.key_table.specs.Tables.{is_table};
 
-use crate::searching::{place_of_duplicate, place_of_gap, place_of_name, place_of_slot};
+use crate::searching::{place_of_duplicate, place_of_gap, place_of_slot};
+use crate::slot_index::{
+    END, SlotIndex, chain_of, chains_of, enter_chain, leave_chain, no_chains, number_rows,
+    place_of_name,
+};
 use crate::{Denied, KeyNotFound, TableFull};
 use key_attributes::{KeyRow, KeyValue, Use};
 use pad_words::{KeyName, NoMemory};
@@ -23,18 +29,21 @@ const SLOTS: usize = 64;
 pub struct KeyTable {
     // In rising order of slots. There is room for all.
     rows: Vec<(u8, KeyRow)>,
+    // It leads to each row.
+    index: SlotIndex,
 }
 
 impl Model for KeyTable {
     ghost use Rattle.std.specs.Prelude.{IsTrue, vec_capacity, ◌≤◌};
     ghost use Rattle.key_table.specs.KeyRows.{KeyRows};
+    ghost use Rattle.key_table.specs.SlotIndexes.{LeadsTo};
     ghost use Rattle.key_table.specs.Tables.{is_table};
 
     ghost Value = { KeyRows };
 
     ghost view = { λ t. t.rows.items };
 
-    ghost invariant = { λ t. IsTrue (is_table t.rows.items) × (64 ≤ vec_capacity t.rows) };
+    ghost invariant = { λ t. IsTrue (is_table t.rows.items) × (64 ≤ vec_capacity t.rows) × LeadsTo t.index 0 t.rows.items };
 }
 
 impl KeyTable {
@@ -43,7 +52,10 @@ impl KeyTable {
         ensures { IfOk result (λ table. table ≡ []) }
     {
         match Vec::with_capacity(alloc, SLOTS) {
-            Ok(rows) => Ok(KeyTable { rows }),
+            Ok(rows) => Ok(KeyTable {
+                rows,
+                index: no_chains(),
+            }),
             Err(_) => Err(NoMemory),
         }
     }
@@ -52,6 +64,7 @@ impl KeyTable {
     pub fn rows(&self) -> &[(u8, KeyRow)]
         ensures rows { result.now ≡ self.now }
         ensures table { IsTrue (is_table self.now) }
+        ensures few { length self.now ≤ 64 }
     {
         self.rows.as_slice()
     }
@@ -60,7 +73,7 @@ impl KeyTable {
     pub fn find(&self, name: &KeyName) -> Option<&KeyRow>
         ensures { option_copied result ≡ find_row name.now self.now }
     {
-        match place_of_name(self.rows.as_slice(), name) {
+        match place_of_name(self.rows.as_slice(), &self.index, name) {
             Some(place) => Some(&self.rows[place].1),
             None => None,
         }
@@ -113,7 +126,7 @@ impl KeyTable {
         ensures ok { OnOk result (IfSome (slot_for row.now.name self.old) (λ slot. self.new ≡ with_row slot row.now self.old)) }
         ensures err { OnErr result (self.new ≡ self.old) }
     {
-        if let Some(place) = place_of_name(self.rows.as_slice(), &row.name) {
+        if let Some(place) = place_of_name(self.rows.as_slice(), &self.index, &row.name) {
             self.rows[place].1 = row.copy();
             return Ok(());
         }
@@ -122,10 +135,8 @@ impl KeyTable {
             return Err(TableFull);
         }
         let gap = place_of_gap(self.rows.as_slice());
-        match self.rows.insert(gap, (gap as u8, row.copy())) {
-            Ok(()) => Ok(()),
-            Err(_) => unreachable!(),
-        }
+        self.insert_row(gap, row.copy());
+        Ok(())
     }
 
     /// Empties the slot of this name. Refused, with nothing changed, where the name is absent.
@@ -134,10 +145,10 @@ impl KeyTable {
         ensures ok { OnOk result (IfSome (find_key name.now self.old) (λ found. self.new ≡ put_row found.0 None self.old)) }
         ensures err { OnErr result (self.new ≡ self.old) }
     {
-        let Some(place) = place_of_name(self.rows.as_slice(), name) else {
+        let Some(place) = place_of_name(self.rows.as_slice(), &self.index, name) else {
             return Err(KeyNotFound);
         };
-        self.rows.remove(place);
+        self.take_row(place);
         Ok(())
     }
 
@@ -145,7 +156,7 @@ impl KeyTable {
     pub fn slot_of(&self, name: &KeyName) -> Option<u8>
         ensures { result ≡ slot_of name.now self.now }
     {
-        match place_of_name(self.rows.as_slice(), name) {
+        match place_of_name(self.rows.as_slice(), &self.index, name) {
             Some(place) => Some(self.rows[place].0),
             None => None,
         }
@@ -156,7 +167,7 @@ impl KeyTable {
     pub fn slot_for(&self, name: &KeyName) -> Option<u8>
         ensures { result ≡ slot_for name.now self.now }
     {
-        if let Some(place) = place_of_name(self.rows.as_slice(), name) {
+        if let Some(place) = place_of_name(self.rows.as_slice(), &self.index, name) {
             return Some(self.rows[place].0);
         }
         let is_full = self.rows.len() == SLOTS;
@@ -187,6 +198,7 @@ impl KeyTable {
         ensures room { 64 ≤ vec_capacity rows.new }
     {
         swap(&mut self.rows, rows);
+        self.index = chains_of(self.rows.as_slice());
     }
 
     /// Empties the slot.
@@ -194,7 +206,57 @@ impl KeyTable {
         ensures { self.new ≡ put_row slot None self.old }
     {
         if let Some(place) = place_of_slot(self.rows.as_slice(), slot) {
-            self.rows.remove(place);
+            self.take_row(place);
         }
+    }
+
+    // Puts a row into the slot of this number, at this place.
+    fn insert_row(&mut self, place: usize, row: KeyRow)
+        requires table { IsTrue (is_table (insert self.old place (place, row))) }
+        requires within { place ≤ length self.old }
+        requires few { length self.old < 64 }
+        ensures { self.new ≡ insert self.old place (place, row) }
+    {
+        let slot = place as u8;
+        let chain = chain_of(&row.name);
+        let before = self.slot_before(chain, place);
+        match self.rows.insert(place, (slot, row)) {
+            Ok(()) => {}
+            Err(_) => unreachable!(),
+        }
+        enter_chain(&mut self.index, chain, before, slot);
+        number_rows(self.rows.as_slice(), &mut self.index);
+    }
+
+    // Takes the row at this place out.
+    fn take_row(&mut self, place: usize)
+        requires { place < length self.old }
+        ensures { self.new ≡ remove self.old place }
+    {
+        let slot = self.rows[place].0;
+        let chain = chain_of(&self.rows[place].1.name);
+        let before = self.slot_before(chain, place);
+        leave_chain(&mut self.index, chain, before, slot);
+        self.rows.remove(place);
+        number_rows(self.rows.as_slice(), &mut self.index);
+    }
+
+    // The last slot of the chain among the rows before this place.
+    fn slot_before(&self, chain: usize, place: usize) -> Option<u8>
+        requires { chain < 32 }
+        ensures last { result ≡ last_in chain (take place self.now) }
+        ensures below { IfSome result (λ last. last < 64) }
+    {
+        let mut before = None;
+        let mut slot = self.index.first[chain];
+        while slot < END {
+            let at = usize::from(slot);
+            if usize::from(self.index.places[at]) >= place {
+                return before;
+            }
+            before = Some(slot);
+            slot = self.index.next[at];
+        }
+        before
     }
 }

@@ -1,5 +1,5 @@
 //! Keys put, replaced, removed and denied, and duplicates, against answers written down by hand.
-use crate::{Denied, KeyNotFound, KeyTable, TableFull};
+use crate::{Denied, KeyNotFound, KeyTable, TableFull, copy_rows, put_row, same_rows};
 use key_attributes::{KeyRow, KeyValue, Use, Uses};
 use pad_words::KeyName;
 use std::test::Fail;
@@ -212,6 +212,67 @@ fn duplicates(rt: HostRuntime) -> Result<(), Fail> {
             _ => false,
         };
         assert!(rt; same, "row {place}");
+    }
+    Ok(())
+}
+
+/// Of rows in the slots 1, 2 and 4: what a slot gets, none where it is emptied, and then the slots with their bytes.
+const LISTS: &[(u8, Option<u8>, &[(u8, u8)])] = &[
+    // before, between and behind
+    (0, Some(9), &[(0, 9), (1, 1), (2, 2), (4, 4)]),
+    (3, Some(9), &[(1, 1), (2, 2), (3, 9), (4, 4)]),
+    (63, Some(9), &[(1, 1), (2, 2), (4, 4), (63, 9)]),
+    // in place of another row, and the same row again
+    (2, Some(9), &[(1, 1), (2, 9), (4, 4)]),
+    (2, Some(2), &[(1, 1), (2, 2), (4, 4)]),
+    // a slot with a row, and an empty one
+    (1, None, &[(2, 2), (4, 4)]),
+    (4, None, &[(1, 1), (2, 2)]),
+    (3, None, &[(1, 1), (2, 2), (4, 4)]),
+];
+
+/// A row whose name and value are told by a byte.
+fn byte_row(byte: u8) -> Result<KeyRow, Fail> {
+    key(&[b'A' + byte % 16], byte, CRYPT)
+}
+
+/// The rows of a table, where this slot has this row, or none.
+fn changed_rows(
+    rt: &HostRuntime,
+    table: &KeyTable,
+    slot: u8,
+    byte: Option<u8>,
+) -> Result<Vec<(u8, KeyRow)>, Fail> {
+    let mut rows = Vec::with_capacity(rt.alloc(), table.rows().len() + 1)?;
+    copy_rows(table.rows(), &mut rows);
+    match byte {
+        Some(byte) => put_row(&mut rows, slot, Some(&byte_row(byte)?)),
+        None => put_row(&mut rows, slot, None),
+    }
+    Ok(rows)
+}
+
+#[test]
+fn row_lists(rt: HostRuntime) -> Result<(), Fail> {
+    let mut table = KeyTable::new(rt.alloc())?;
+    for byte in 0..5 {
+        assert!(rt; table.put(&byte_row(byte)?) == Ok(()));
+    }
+    assert!(rt; table.remove(&byte_row(0)?.name) == Ok(()));
+    assert!(rt; table.remove(&byte_row(3)?.name) == Ok(()));
+    for (place, (slot, byte, wanted)) in LISTS.iter().enumerate() {
+        let rows = changed_rows(&rt, &table, *slot, *byte)?;
+        let mut answer = Vec::new(rt.alloc());
+        for (slot, byte) in *wanted {
+            answer.push((*slot, byte_row(*byte)?))?;
+        }
+        assert!(rt;
+            same_rows(rows.as_slice(), answer.as_slice()),
+            "row {place}"
+        );
+        let unchanged = place == 4 || place == 7;
+        let same = same_rows(rows.as_slice(), table.rows());
+        assert!(rt; same == unchanged, "row {place}");
     }
     Ok(())
 }

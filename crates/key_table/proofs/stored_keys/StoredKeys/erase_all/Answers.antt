@@ -1,5 +1,5 @@
-use Rattle.std.proofs.Common.{Some, None, [], ap, arith, length, ◌*◌, ◌∙◌, ◌∷◌, ◌<◌, ◌≡◌}
-use Rattle.key_table.proofs.EraseLemmas.{changes_more, changes_struck, drop_next, with_first}
+use Rattle.std.proofs.Common.{Some, None, [], ap, arith, length, sym, ◌*◌, ◌∙◌, ◌∷◌, ◌<◌, ◌≡◌}
+use Rattle.key_table.proofs.EraseLemmas.{changes_more, changes_struck, drop_next, erasure_left, with_first}
 use Rattle.key_table.proofs.GapLemmas.{length-table}
 use Rattle.key_table.specs.Changes.{erasures}
 use Rattle.key_table.specs.KeyStores.{KeyStore, MakesChanges}
@@ -23,6 +23,20 @@ returns-in-Err-clause-rows g c =
     with_first c.loop-index.index c.args.self.now.rows c.loop-index.self.rows (λ change. MakesChanges (change ∷ []) 0 (Some c.in-Err.fault) c.loop-index.self c.erase_first.new.self (g.D.Disk.state c.loop-index.disk) (g.D.Disk.state c.erase_first.new.disk)) (c.erase_first.new.self.rows ≡ c.loop-index.self.rows) c.loop-index.invariant.rows within
     (λ change at second. second.rows) c.in-Err.ensures.work
     ∙ c.loop-index.invariant.rows
+
+pub returns-in-Err-clause-struck : goal.returns-in-Err-clause-struck
+returns-in-Err-clause-struck g c =
+    let rows : c.self.inside.keys ≡ c.args.self.now.rows = ap (λ (k : KeyStore). k.rows) c.self.view_is in
+    let within : c.loop-index.index < length c.args.self.now.rows = omega (arith, c.loop-index-test.true, ap length c.rows-count.ensures.rows, ap length rows) in
+    erasure_left c.loop-index.index c.args.self.now.rows c.erase_first.new.self.rows (
+    with_first c.loop-index.index c.args.self.now.rows c.loop-index.self.rows (λ change. MakesChanges (change ∷ []) 0 (Some c.in-Err.fault) c.loop-index.self c.erase_first.new.self (g.D.Disk.state c.loop-index.disk) (g.D.Disk.state c.erase_first.new.disk)) (c.erase_first.new.self.rows ≡ c.loop-index.self.rows) c.loop-index.invariant.rows within
+    (λ change at second. second.rows) c.in-Err.ensures.work
+    ∙ c.loop-index.invariant.rows)
+
+pub returns-clause-struck : goal.returns-clause-struck
+returns-clause-struck g c =
+    let whole : c.loop-index.index ≡ length c.rows-count.result.now = omega (arith, c.loop-index-test.false, c.loop-index.auto.index-end) in
+    rw (sym whole) (erasure_left c.loop-index.index c.args.self.now.rows c.loop-index.self.rows c.loop-index.invariant.rows)
 
 pub loop-index-preserved : goal.loop-index-preserved
 loop-index-preserved g c =

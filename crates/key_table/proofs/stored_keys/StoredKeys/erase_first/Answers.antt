@@ -1,22 +1,7 @@
-use Rattle.std.proofs.Common.{Some, None, [], refl, sym, ◌∙◌, ◌∷◌}
-use Rattle.key_table.proofs.EraseLemmas.{at_first, put_row-first}
-use Rattle.key_table.proofs.KeyStoreLemmas.{change_done, change_struck, emptied-fits, shown_after}
-use Rattle.key_table.specs.Changes.{erasure}
-use Rattle.key_table.specs.KeyStores.{MakesChanges}
+use Rattle.std.proofs.Common.{sym}
+use Rattle.key_table.proofs.EraseLemmas.{put_row-first, rows_as}
 use Rattle.key_table.proofs.stored_keys.StoredKeys.erase_first.Goals as goal
 
-pub returns-in-Err-clause-work : goal.returns-in-Err-clause-work
-returns-in-Err-clause-work g c = rw (sym c.self.view_is)
-    (at_first c.self.inside.keys c.first_slot-slot.result (λ slot. MakesChanges (erasure slot ∷ []) 0 (Some c.in-Err.fault) (record { rows = c.self.inside.keys; bytes = c.self.inside.store.bytes }) (record { rows = c.self.inside.keys; bytes = c.replace_row.new.store.bytes }) (g.D.Disk.state c.args.disk.now) (g.D.Disk.state c.replace_row.new.disk)) c.first_slot-slot.ensures.first
-    (change_struck (record { size = c.changed_bytes_show_changed_rows.ensures.size; whole = c.changed_bytes_show_changed_rows.ensures.whole; torn = c.changed_bytes_show_changed_rows.ensures.torn }) (g.D.Disk.state c.args.disk.now) (g.D.Disk.state c.replace_row.new.disk) c.first_slot-slot.result None c.self.inside.keys c.self.inside.keys c.self.inside.store.bytes c.replace_row.new.store.bytes (rw (sym c.self.view_is) at c.requires.in_step) c.self.invariant.0 (emptied-fits c.self.inside.keys c.first_slot-slot.result c.first_slot-slot.ensures.table c.first_slot-slot.ensures.below) c.in-Err.fault (g.met.D.Disk.laws c.args.disk.now) c.in-Err.ensures.calls c.in-Err.ensures.torn c.in-Err.ensures.err refl))
-
-pub invariant_of-self-2 : goal.invariant_of-self-2
-invariant_of-self-2 g c = (shown_after (record { size = c.changed_bytes_show_changed_rows.ensures.size; whole = c.changed_bytes_show_changed_rows.ensures.whole; torn = c.changed_bytes_show_changed_rows.ensures.torn }) (g.D.Disk.state c.args.disk.now) (g.D.Disk.state c.replace_row.new.disk) c.first_slot-slot.result None c.self.inside.keys c.erase.new.self c.self.inside.store.bytes c.replace_row.new.store.bytes (rw (sym c.self.view_is) at c.requires.in_step) c.self.invariant.0 (emptied-fits c.self.inside.keys c.first_slot-slot.result c.first_slot-slot.ensures.table c.first_slot-slot.ensures.below) c.in-Ok.ensures.ok c.erase.ensures, c.self.invariant.1)
-
-pub returns-clause-work : goal.returns-clause-work
-returns-clause-work g c = rw (sym c.self.view_is)
-    (at_first c.self.inside.keys c.first_slot-slot.result (λ slot. MakesChanges (erasure slot ∷ []) 1 None (record { rows = c.self.inside.keys; bytes = c.self.inside.store.bytes }) (record { rows = c.erase.new.self; bytes = c.replace_row.new.store.bytes }) (g.D.Disk.state c.args.disk.now) (g.D.Disk.state c.replace_row.new.disk)) c.first_slot-slot.ensures.first
-    (change_done (record { size = c.changed_bytes_show_changed_rows.ensures.size; whole = c.changed_bytes_show_changed_rows.ensures.whole; torn = c.changed_bytes_show_changed_rows.ensures.torn }) (g.D.Disk.state c.args.disk.now) (g.D.Disk.state c.replace_row.new.disk) c.first_slot-slot.result None c.self.inside.keys c.erase.new.self c.self.inside.store.bytes c.replace_row.new.store.bytes (rw (sym c.self.view_is) at c.requires.in_step) c.self.invariant.0 (emptied-fits c.self.inside.keys c.first_slot-slot.result c.first_slot-slot.ensures.table c.first_slot-slot.ensures.below) c.in-Ok.ensures.calls c.in-Ok.ensures.ok c.in-Ok.ensures.in_step c.erase.ensures))
-
 pub returns-clause-rows : goal.returns-clause-rows
-returns-clause-rows g c = rw (sym c.self.view_is) (c.erase.ensures ∙ put_row-first c.self.inside.keys c.first_slot-slot.result c.first_slot-slot.ensures.table (rw (sym c.self.view_is) at c.requires.some) c.first_slot-slot.ensures.first)
+returns-clause-rows g c = rows_as _ _ _ c.erase.result c.erase.ensures.ok
+    (rw (sym c.self.view_is) (put_row-first c.self.inside.keys c.first_slot-slot.result c.first_slot-slot.ensures.table (rw (sym c.self.view_is) at c.requires.some) c.first_slot-slot.ensures.first))

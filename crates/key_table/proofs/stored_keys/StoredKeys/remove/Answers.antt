@@ -1,27 +1,6 @@
-use Rattle.std.proofs.Common.{Some, None, refl, sym, ◌∙◌, ◌≡◌}
-use Rattle.key_table.proofs.KeyStoreLemmas.{change_done, change_struck, emptied-fits, shown_after, slot_of-below}
-use Rattle.key_table.specs.KeyRows.{slot_of}
+use Rattle.std.proofs.Common.{sym, ◌∙◌}
+use Rattle.key_table.proofs.KeyStoreLemmas.{slot_of-below}
 use Rattle.key_table.proofs.stored_keys.StoredKeys.remove.Goals as goal
 
-pub replace_row-requires-clause-slot : goal.replace_row-requires-clause-slot
-replace_row-requires-clause-slot g c = slot_of-below c.self.inside.keys c.args.name.now c.in-Some.slot c.rows-rows.ensures.table (sym c.slot_of.ensures ∙ c.in-Some.is)
-
-pub returns-in-Err-clause-work : goal.returns-in-Err-clause-work
-returns-in-Err-clause-work g c =
-    let at : slot_of c.args.name.now c.self.inside.keys ≡ Some c.in-Some.slot = sym c.slot_of.ensures ∙ c.in-Some.is in
-    rw (sym c.self.view_is, at) (change_struck (record { size = c.changed_bytes_show_changed_rows.ensures.size; whole = c.changed_bytes_show_changed_rows.ensures.whole; torn = c.changed_bytes_show_changed_rows.ensures.torn }) (g.D.Disk.state c.args.disk.now) (g.D.Disk.state c.replace_row.new.disk) c.in-Some.slot None c.self.inside.keys c.self.inside.keys c.self.inside.store.bytes c.replace_row.new.store.bytes (rw (sym c.self.view_is) at c.requires) c.self.invariant.0
-    (emptied-fits c.self.inside.keys c.in-Some.slot c.rows-rows.ensures.table (slot_of-below c.self.inside.keys c.args.name.now c.in-Some.slot c.rows-rows.ensures.table at)) c.in-Err.fault (g.met.D.Disk.laws c.args.disk.now) c.in-Err.ensures.calls c.in-Err.ensures.torn c.in-Err.ensures.err refl)
-
-pub invariant_of-self-2 : goal.invariant_of-self-2
-invariant_of-self-2 g c =
-    let at : slot_of c.args.name.now c.self.inside.keys ≡ Some c.in-Some.slot = sym c.slot_of.ensures ∙ c.in-Some.is in (
-      shown_after (record { size = c.changed_bytes_show_changed_rows.ensures.size; whole = c.changed_bytes_show_changed_rows.ensures.whole; torn = c.changed_bytes_show_changed_rows.ensures.torn }) (g.D.Disk.state c.args.disk.now) (g.D.Disk.state c.replace_row.new.disk) c.in-Some.slot None c.self.inside.keys c.erase.new.self c.self.inside.store.bytes c.replace_row.new.store.bytes (rw (sym c.self.view_is) at c.requires) c.self.invariant.0
-          (emptied-fits c.self.inside.keys c.in-Some.slot c.rows-rows.ensures.table (slot_of-below c.self.inside.keys c.args.name.now c.in-Some.slot c.rows-rows.ensures.table at)) c.in-Ok.ensures.ok c.erase.ensures,
-      c.self.invariant.1,
-    )
-
-pub returns-clause-work : goal.returns-clause-work
-returns-clause-work g c =
-    let at : slot_of c.args.name.now c.self.inside.keys ≡ Some c.in-Some.slot = sym c.slot_of.ensures ∙ c.in-Some.is in
-    rw (sym c.self.view_is, at) (change_done (record { size = c.changed_bytes_show_changed_rows.ensures.size; whole = c.changed_bytes_show_changed_rows.ensures.whole; torn = c.changed_bytes_show_changed_rows.ensures.torn }) (g.D.Disk.state c.args.disk.now) (g.D.Disk.state c.replace_row.new.disk) c.in-Some.slot None c.self.inside.keys c.erase.new.self c.self.inside.store.bytes c.replace_row.new.store.bytes (rw (sym c.self.view_is) at c.requires) c.self.invariant.0
-    (emptied-fits c.self.inside.keys c.in-Some.slot c.rows-rows.ensures.table (slot_of-below c.self.inside.keys c.args.name.now c.in-Some.slot c.rows-rows.ensures.table at)) c.in-Ok.ensures.calls c.in-Ok.ensures.ok c.in-Ok.ensures.in_step c.erase.ensures)
+pub erase-requires-clause-below : goal.erase-requires-clause-below
+erase-requires-clause-below g c = slot_of-below c.self.inside.keys c.args.name.now c.in-Some.slot c.rows-rows.ensures.table (sym c.slot_of.ensures ∙ c.in-Some.is)

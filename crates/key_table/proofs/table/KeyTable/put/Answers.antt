@@ -1,7 +1,8 @@
-use Rattle.std.proofs.Common.{None, arith, length, refl, sym, ◌<◌, ◌∙◌, ◌≡◌}
-use Rattle.key_table.proofs.ChangeLemmas.{IsGapFor, StandsAt, find_key-stands, is_table-gap, is_table-over, put_in_gap, put_over, slot_for-first_gap, slot_for-stands}
+use Rattle.std.proofs.Common.{None, arith, length, refl, sym, ◌∙◌, ◌≡◌}
+use Rattle.key_table.proofs.ChangeLemmas.{StandsAt, first_gap_for, find_key-stands, is_table-gap, is_table-over, put_in_gap, put_over, slot_for-first_gap, slot_for-stands, stands_named}
 use Rattle.key_table.proofs.FindLemmas.{find_key-absent}
-use Rattle.key_table.proofs.GapLemmas.{length-table, slot_for-full}
+use Rattle.key_table.proofs.GapLemmas.{slot_for-full}
+use Rattle.key_table.proofs.SlotIndexLemmas.{leads_over}
 use Rattle.key_table.proofs.TableLemmas.{table_from}
 use Rattle.key_table.specs.KeyRows.{find_key}
 use Rattle.key_table.proofs.table.KeyTable.put.Goals as goal
@@ -14,7 +15,12 @@ stands c =
     record { place_is = sym at ∙ c.in-Some.is; at = c.index_mut.ensures.value }
 
 pub invariant_of-self : goal.invariant_of-self
-invariant_of-self c = (rw c.copy.ensures (is_table-over c.self.inside.rows.items c.in-Some.place c.index_mut.result.now c.args.row.now c.self.invariant.0 (stands c)), c.self.invariant.1)
+invariant_of-self c =
+    let named = stands_named c.args.row.now.name c.self.inside.rows.items c.in-Some.place c.index_mut.result.now (stands c) in (
+      rw c.copy.ensures (is_table-over c.self.inside.rows.items c.in-Some.place c.index_mut.result.now c.args.row.now c.self.invariant.0 (stands c)),
+      c.self.invariant.1,
+      rw c.copy.ensures (leads_over c.self.inside.index c.in-Some.place c.self.inside.rows.items c.index_mut.result.now c.args.row.now named.0 c.index_mut.ensures.value named.1 c.self.invariant.2),
+    )
 
 pub returns-in-Some-clause-full : goal.returns-in-Some-clause-full
 returns-in-Some-clause-full c = rw (sym c.self.view_is, find_key-stands c.args.row.now.name c.self.inside.rows.items c.in-Some.place c.index_mut.result.now (stands c)) refl
@@ -45,37 +51,41 @@ returns-then-is_full-clause-slotless c = rw (sym c.self.view_is, slot_for-full c
 
 -- an absent name, where a slot is empty
 
-is_below : (c : goal.After-insert-arg-1) → c.place_of_gap-gap.result < 64
-is_below c =
-    let counted = rw c.as_slice.ensures.value at c.as_slice.ensures.len in
-    let within = rw c.as_slice-2.ensures.value at c.place_of_gap-gap.ensures.within in
-    omega (arith, length-table c.self.inside.rows.items c.self.invariant.0, counted, within, c.len-is_full.ensures, c.if-is_full.false)
-
-pub overflow_cast-gap : goal.overflow_cast-gap
-overflow_cast-gap c = omega (arith, is_below c)
-
-pub unreachable-requires : goal.unreachable-requires
-unreachable-requires c =
-    let counted = rw c.as_slice.ensures.value at c.as_slice.ensures.len in
-    omega (arith, length-table c.self.inside.rows.items c.self.invariant.0, counted, c.len-is_full.ensures, c.if-is_full.false, c.self.invariant.1, c.in-Err.ensures.full)
-
-fits : (c : goal.In-Ok) → IsGapFor c.args.row.now.name c.self.inside.rows.items c.place_of_gap-gap.result
-fits c =
+pub insert_row-requires-clause-table : goal.insert_row-requires-clause-table
+insert_row-requires-clause-table c =
     let at = rw c.as_slice.ensures.value at c.place_of_name.ensures in
     let counted = rw c.as_slice.ensures.value at c.as_slice.ensures.len in
+    let first = rw c.as_slice-2.ensures.value at c.place_of_gap-gap.ensures.gap in
     let within = rw c.as_slice-2.ensures.value at c.place_of_gap-gap.ensures.within in
-    record {
-      absent = find_key-absent c.args.row.now.name c.self.inside.rows.items (sym at ∙ c.in_default.is);
-      first = rw c.as_slice-2.ensures.value at c.place_of_gap-gap.ensures.gap;
-      below = omega (arith, length-table c.self.inside.rows.items c.self.invariant.0, counted, within, c.len-is_full.ensures, c.if-is_full.false);
-    }
+    let gap = first_gap_for c.args.row.now.name c.self.inside.rows.items c.len-is_full.result c.place_of_gap-gap.result c.self.invariant.0 (sym at ∙ c.in_default.is) (counted ∙ sym c.len-is_full.ensures) c.if-is_full.false first within in
+    rw (sym c.self.view_is, c.copy-2.ensures) (is_table-gap c.self.inside.rows.items c.place_of_gap-gap.result c.args.row.now c.self.invariant.0 gap.0)
 
-pub invariant_of-self-2 : goal.invariant_of-self-2
-invariant_of-self-2 c =
-    (rw (c.in-Ok.ensures.items, c.copy-2.ensures) (is_table-gap c.self.inside.rows.items c.place_of_gap-gap.result c.args.row.now c.self.invariant.0 (fits c)), omega (arith, c.self.invariant.1, c.in-Ok.ensures.capacity))
+pub insert_row-requires-clause-within : goal.insert_row-requires-clause-within
+insert_row-requires-clause-within c = let within = rw c.as_slice-2.ensures.value at c.place_of_gap-gap.ensures.within in rw (sym c.self.view_is) within
+
+pub insert_row-requires-clause-few : goal.insert_row-requires-clause-few
+insert_row-requires-clause-few c =
+    let at = rw c.as_slice.ensures.value at c.place_of_name.ensures in
+    let counted = rw c.as_slice.ensures.value at c.as_slice.ensures.len in
+    let first = rw c.as_slice-2.ensures.value at c.place_of_gap-gap.ensures.gap in
+    let within = rw c.as_slice-2.ensures.value at c.place_of_gap-gap.ensures.within in
+    let gap = first_gap_for c.args.row.now.name c.self.inside.rows.items c.len-is_full.result c.place_of_gap-gap.result c.self.invariant.0 (sym at ∙ c.in_default.is) (counted ∙ sym c.len-is_full.ensures) c.if-is_full.false first within in
+    rw (sym c.self.view_is) gap.1
 
 pub returns-clause-slotless : goal.returns-clause-slotless
-returns-clause-slotless c = rw (sym c.self.view_is, slot_for-first_gap c.args.row.now.name c.self.inside.rows.items c.place_of_gap-gap.result c.self.invariant.0 (fits c)) refl
+returns-clause-slotless c =
+    let at = rw c.as_slice.ensures.value at c.place_of_name.ensures in
+    let counted = rw c.as_slice.ensures.value at c.as_slice.ensures.len in
+    let first = rw c.as_slice-2.ensures.value at c.place_of_gap-gap.ensures.gap in
+    let within = rw c.as_slice-2.ensures.value at c.place_of_gap-gap.ensures.within in
+    let gap = first_gap_for c.args.row.now.name c.self.inside.rows.items c.len-is_full.result c.place_of_gap-gap.result c.self.invariant.0 (sym at ∙ c.in_default.is) (counted ∙ sym c.len-is_full.ensures) c.if-is_full.false first within in
+    rw (sym c.self.view_is, slot_for-first_gap c.args.row.now.name c.self.inside.rows.items c.place_of_gap-gap.result c.self.invariant.0 gap.0) refl
 
 pub returns-clause-ok : goal.returns-clause-ok
-returns-clause-ok c = rw (sym c.self.view_is, c.in-Ok.ensures.items, c.copy-2.ensures) (put_in_gap c.self.inside.rows.items c.place_of_gap-gap.result c.args.row.now c.self.invariant.0 (fits c))
+returns-clause-ok c =
+    let at = rw c.as_slice.ensures.value at c.place_of_name.ensures in
+    let counted = rw c.as_slice.ensures.value at c.as_slice.ensures.len in
+    let first = rw c.as_slice-2.ensures.value at c.place_of_gap-gap.ensures.gap in
+    let within = rw c.as_slice-2.ensures.value at c.place_of_gap-gap.ensures.within in
+    let gap = first_gap_for c.args.row.now.name c.self.inside.rows.items c.len-is_full.result c.place_of_gap-gap.result c.self.invariant.0 (sym at ∙ c.in_default.is) (counted ∙ sym c.len-is_full.ensures) c.if-is_full.false first within in
+    rw (c.insert_row.ensures, sym c.self.view_is, c.copy-2.ensures) (put_in_gap c.self.inside.rows.items c.place_of_gap-gap.result c.args.row.now c.self.invariant.0 gap.0)
