@@ -3,7 +3,7 @@ use Rattle.des_core.specs.Bits.{IsBlock}
 use Rattle.des_core.specs.TripleDes.{tdea_bytes}
 use Rattle.flat_machine.proofs.BoolLemmas.{both}
 use Rattle.flat_machine.specs.Disclosure.{is_padded}
-use Rattle.pad_steps.specs.Accounts.{all_decimal, is_pan}
+use Rattle.pad_steps.specs.Accounts.{all_decimal}
 use Rattle.pad_steps.specs.Formed.{all_bytes, all_nibbles, is_block, is_optional_block}
 use Rattle.pad_steps.specs.declared.commands.BlockRequest.{BlockRequest}
 use Rattle.pad_steps.specs.declared.commands.Form.{Form}
@@ -20,7 +20,7 @@ use Rattle.std.proofs.lemmas.List.Elements.{All-cons, All-head, All-nil, All-tai
 use Rattle.std.proofs.lemmas.List.Sums.{AllPass-from_list_all}
 use Rattle.std.proofs.lemmas.Nat.{xor_lt}
 use Rattle.std.specs.List.{list_all}
-use Rattle.std.specs.Prelude.{All, Bool, IsTrue, List, None, Option, Some, [], false, if◌then◌else◌, is_some, length, nat_le, nat_lt, not, refl, suc, true, ℕ, ◌&&◌, ◌<◌, ◌==◌, ◌||◌, ◌∷◌, ◌≡◌, ◌≤◌}
+use Rattle.std.specs.Prelude.{All, Bool, List, None, Option, Some, [], false, if◌then◌else◌, is_some, length, nat_le, nat_lt, not, refl, suc, true, ℕ, ◌&&◌, ◌<◌, ◌==◌, ◌||◌, ◌∷◌, ◌≡◌}
 
 -- tests as facts
 

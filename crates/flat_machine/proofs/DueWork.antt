@@ -1,6 +1,6 @@
 -- A step that is due leaves less to do.
 use Rattle.std.proofs.Common.{ap, arith, inl, inr, ◌∙◌}
-use Rattle.std.specs.Prelude.{Bool, IsTrue, List, None, Option, Some, [], false, if◌then◌else◌, length, refl, true, ℕ, ◌+◌, ◌<◌, ◌∷◌, ◌≡◌, ◌≤◌, ◌⊎◌}
+use Rattle.std.specs.Prelude.{Bool, List, None, Option, Some, [], false, if◌then◌else◌, length, refl, true, ℕ, ◌+◌, ◌<◌, ◌∷◌, ◌≡◌, ◌≤◌, ◌⊎◌}
 use Rattle.device_lock.specs.LockLine.{holder_of}
 use Rattle.entry_core.specs.Entries.{Entry, entry_of, entry_refusal}
 use Rattle.flat_machine.proofs.WorkChains.{work_ends}

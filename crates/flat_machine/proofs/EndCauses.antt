@@ -7,7 +7,9 @@ use Rattle.flat_machine.proofs.LineMoves.{same_turned}
 use Rattle.flat_machine.proofs.StepCauses.{Began, ByAnswer, ByBadStore, ByCancel, ByClose, ByCut, ByDevice, ByFault, ByOff, ByPress, ByRefusal, ByTick, Caused, EndedMany, EndedOne, EndsMany, EndsOne, Nothing, RefusedEntry, Submitted, ended_by, next_caused, notable_in, notables}
 use Rattle.flat_machine.specs.Commands.{work_of}
 use Rattle.flat_machine.specs.Decisions.{denial}
-use Rattle.flat_machine.specs.EndingFacts.{HasReachedLimit, cancels_of, is_cut, is_failed, is_off_step}
+use Rattle.flat_machine.specs.DiskFacts.{is_off_step}
+use Rattle.flat_machine.specs.DiskSteps.{is_cut, is_failed}
+use Rattle.flat_machine.specs.EndingFacts.{HasReachedLimit, cancels_of}
 use Rattle.flat_machine.specs.EntrySteps.{first_of}
 use Rattle.flat_machine.specs.FinishSteps.{device_reply}
 use Rattle.flat_machine.specs.Machine.{next}

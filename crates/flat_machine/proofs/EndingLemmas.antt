@@ -2,7 +2,6 @@
 use Rattle.flat_machine.proofs.RequestMoves.{Rows, ending_of, endings_where}
 use Rattle.flat_machine.specs.RequestFacts.{Ending, ending_in, endings}
 use Rattle.request_queue.specs.Requests.{pending_where}
-use Rattle.pad_words.specs.Numbers.{same_session}
 use Rattle.flat_machine.specs.Sessions.{execute_event, grants, grants_after, service_events}
 use Rattle.device_lock.specs.LockLine.{holds, out_of_line}
 use Rattle.flat_machine.specs.State.{Shared, accuses}
@@ -18,8 +17,7 @@ use Rattle.pad_steps.specs.declared.answers.Reply.{Reply}
 use Rattle.pad_steps.specs.declared.commands.Command.{Command}
 use Rattle.pad_words.specs.declared.numbers.Session.{Session}
 use Rattle.std.proofs.Common.{ap, append_assoc, sym, ◌∙◌}
-use Rattle.std.specs.List.{list_any}
-use Rattle.std.specs.Prelude.{Bool, List, None, Option, Some, [], false, filter, if◌then◌else◌, map, refl, true, ℕ, ◌&&◌, ◌++◌, ◌∷◌, ◌≡◌}
+use Rattle.std.specs.Prelude.{Bool, List, None, Option, Some, [], false, if◌then◌else◌, map, refl, true, ℕ, ◌++◌, ◌∷◌, ◌≡◌}
 use Rattle.pad_steps.specs.declared.answers.Event.TheVariants as event
 use Rattle.pad_steps.specs.declared.answers.Out.TheVariants as out
 

@@ -5,10 +5,10 @@ use Rattle.entry_core.specs.declared.seen.Seen.{Seen}
 use Rattle.entry_core.specs.declared.seen.Seen.TheVariants.{Ended, Ignored, Took}
 use Rattle.flat_machine.proofs.EntryStays.{Drops, Keeps, KeepsEntry, keeps_begin, keeps_cancel, keeps_close, keeps_finish, keeps_if, keeps_if_open, keeps_loads, keeps_open, keeps_power, keeps_submit, keeps_tick, keeps_unlock}
 use Rattle.flat_machine.specs.EntrySteps.{after_entry}
-use Rattle.flat_machine.specs.Kept.{FitEntryIn, FitRunning, Kept, KeptAfter, kept_next, kept_press_in, kept_said, kept_seen}
+use Rattle.flat_machine.specs.Kept.{FitEntryIn, FitRunning, Kept, kept_next, kept_press_in, kept_said, kept_seen}
 use Rattle.flat_machine.specs.RequestSteps.{is_canceled, submit_refusal}
 use Rattle.flat_machine.specs.Settings.{Setting}
-use Rattle.flat_machine.specs.State.{Shared, Running, Said, is_off, running_entry}
+use Rattle.flat_machine.specs.State.{Running, Said, is_off, running_entry}
 use Rattle.key_source.specs.Keys.{has_key}
 use Rattle.key_source.specs.declared.Key.{Key}
 use Rattle.pad_steps.specs.declared.steps.DiskWord.{DiskWord}

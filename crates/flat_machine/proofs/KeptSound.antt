@@ -2,12 +2,13 @@
 use Rattle.entry_core.specs.Entries.{active_seen, after_value, digit_in}
 use Rattle.entry_core.specs.declared.seen.Seen.{Seen}
 use Rattle.entry_core.specs.declared.seen.Seen.TheVariants.{Ended, Ignored, Took}
+use Rattle.flat_machine.proofs.DeviceStays.{flat_with}
 use Rattle.flat_machine.proofs.SoundLemmas.{next_sound, sound_finished}
 use Rattle.flat_machine.specs.EntrySteps.{entry_answer}
 use Rattle.flat_machine.specs.Kept.{Kept, KeptAfter, kept_next, kept_press_in, kept_seen}
 use Rattle.flat_machine.specs.Settings.{Setting}
 use Rattle.flat_machine.specs.Sound.{Sound, SubmitsOk}
-use Rattle.flat_machine.specs.State.{Flat, Running, running_entry}
+use Rattle.flat_machine.specs.State.{Running, running_entry}
 use Rattle.key_source.specs.Keys.{has_key}
 use Rattle.key_source.specs.declared.Key.{Key}
 use Rattle.pad_steps.specs.declared.answers.Reply.TheVariants as reply
@@ -15,7 +16,7 @@ use Rattle.pad_steps.specs.declared.commands.Command.{Command}
 use Rattle.pad_steps.specs.declared.steps.DiskWord.{DiskWord}
 use Rattle.pad_steps.specs.declared.steps.Step.{Step}
 use Rattle.pad_steps.specs.declared.steps.Step.TheVariants as step
-use Rattle.std.specs.Prelude.{Bool, List, None, Option, Some, [], cond, false, if◌then◌else◌, length, true, ℕ}
+use Rattle.std.specs.Prelude.{Bool, List, None, Option, Some, cond, false, length, true, ℕ}
 
 seen-kept_sound : (ok : Command → Bool) (set : Setting) (kept : Kept) (w : Running) (digits : List ℕ) (seen : Seen) → Sound ok kept.shared → Sound ok (kept_seen set kept w digits seen).state.shared
 seen-kept_sound ok set kept w digits Ignored sound = sound
@@ -30,10 +31,6 @@ press-kept_sound : (ok : Command → Bool) (set : Setting) (kept : Kept) (w : Op
 press-kept_sound ok set kept None key sound = sound
 press-kept_sound ok set kept (Some w) key sound =
     one-kept_sound ok (has_key w.entry.active key) _ _ (seen-kept_sound ok set kept w (after_value w.entry (digit_in w.entry.kind key) key kept.digits) (active_seen w.entry (length kept.digits) key) sound) sound
-
--- a state that has what is kept
-abbrev flat_with : Kept → Flat
-flat_with kept = record { shared = kept.shared; presses = []; held = kept.held }
 
 pub next-kept_sound : (ok : Command → Bool) (set : Setting) (kept : Kept) (s : Step) (w : DiskWord) → SubmitsOk ok set.pin_rules s → Sound ok kept.shared → Sound ok (kept_next set kept s w).state.shared
 next-kept_sound ok set kept (step.Open s) w good sound = next_sound ok set (flat_with kept) (step.Open s) w good sound

@@ -9,7 +9,7 @@ use Rattle.request_queue.specs.Requests.{pending_by_id, request_in_work}
 use Rattle.request_queue.specs.declared.requests.Request.{Request}
 use Rattle.request_queue.specs.declared.requests.RequestRow.{RequestRow}
 use Rattle.request_queue.specs.declared.requests.RequestRow.TheVariants.{Gone, InWork, Waiting}
-use Rattle.std.specs.Prelude.{Bool, IsTrue, List, Option, Some, [], false, if◌then◌else◌, not, true, ℕ, ◌&&◌, ◌==◌, ◌∷◌, ◌≡◌}
+use Rattle.std.specs.Prelude.{Bool, IsTrue, List, Option, Some, [], false, if◌then◌else◌, not, true, ℕ, ◌==◌, ◌∷◌, ◌≡◌}
 use Rattle.std.proofs.Common.{ap, sym, ◌∙◌}
 
 same_request : (a b : Request Command) → Some a ≡ Some b → a ≡ b

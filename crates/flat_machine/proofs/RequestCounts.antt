@@ -1,7 +1,7 @@
 -- How many requests there are after a step.
 use Rattle.std.proofs.Common.{ap, arith, cond, length-append, ◌∙◌}
-use Rattle.std.specs.Prelude.{Bool, List, None, Option, Some, [], false, if◌then◌else◌, length, map, refl, suc, true, ℕ, ◌+◌, ◌∷◌, ◌≡◌, ◌≤◌}
-use Rattle.device_lock.specs.LockLine.{holder_of, holds, out_of_line}
+use Rattle.std.specs.Prelude.{Bool, List, None, Option, Some, [], false, if◌then◌else◌, length, refl, suc, true, ℕ, ◌+◌, ◌∷◌, ◌≡◌, ◌≤◌}
+use Rattle.device_lock.specs.LockLine.{holder_of, holds}
 use Rattle.entry_core.specs.Entries.{Entry, entry_of, entry_refusal}
 use Rattle.entry_core.specs.declared.seen.Seen.TheVariants.{Ended, Ignored, Took}
 use Rattle.entry_core.specs.declared.seen.Seen.{Seen}
@@ -13,7 +13,7 @@ use Rattle.flat_machine.specs.Power.{loads, replaces}
 use Rattle.flat_machine.specs.RequestFacts.{draws}
 use Rattle.flat_machine.specs.RequestSteps.{cancels, is_canceled, submit_by, submit_refusal}
 use Rattle.flat_machine.specs.Settings.{Setting}
-use Rattle.flat_machine.specs.State.{Running, Said, Shared, device_refusal, is_off, owner_of, running_entry, unchanged}
+use Rattle.flat_machine.specs.State.{Running, Said, Shared, device_refusal, is_off, owner_of, running_entry}
 use Rattle.flat_machine.specs.declared.types.Owner.{Owner}
 use Rattle.flat_machine.specs.declared.types.Work.TheVariants as work
 use Rattle.flat_machine.specs.declared.types.Work.{Work}

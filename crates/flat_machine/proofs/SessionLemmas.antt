@@ -1,16 +1,15 @@
 -- Open sessions stay open as others come and go.
-use Rattle.flat_machine.proofs.BoolLemmas.{or_more, or_none, or_right, true_is_not_false}
+use Rattle.flat_machine.proofs.BoolLemmas.{or_more, or_right, true_is_not_false}
 use Rattle.pad_words.specs.Numbers.{same_session}
 use Rattle.session_book.specs.RisingLaws.{session-listening}
-use Rattle.session_book.specs.Sessions.{is_open, listening, with_classes, with_session, without_session}
+use Rattle.session_book.specs.Sessions.{is_open, with_classes, with_session, without_session}
 use Rattle.session_book.specs.declared.sessions.SessionRow.{SessionRow}
 use Rattle.pad_steps.specs.declared.steps.Classes.{Classes}
 use Rattle.pad_words.specs.declared.numbers.Session.{Session}
-use Rattle.std.proofs.Common.{arith, inl, inr, sym, ◌∙◌}
-use Rattle.std.proofs.lemmas.Bool.{eqb-false, eqb-true, ltb-false, ltb-true, ne_eqb}
+use Rattle.std.proofs.Common.{sym, ◌∙◌}
+use Rattle.std.proofs.lemmas.Bool.{eqb-false, eqb-true, ne_eqb}
 use Rattle.std.specs.List.{list_any}
-use Rattle.std.specs.List.Sorted.{IsStrictlyIncreasing}
-use Rattle.std.specs.Prelude.{Bool, List, [], cond, false, filter, if◌then◌else◌, nat_lt, not, refl, suc, true, zero, ℕ, ◌+◌, ◌<◌, ◌||◌, ◌∷◌, ◌≡◌, ◌≤◌, ◌⊎◌}
+use Rattle.std.specs.Prelude.{Bool, List, [], cond, false, if◌then◌else◌, nat_lt, not, refl, true, ◌||◌, ◌∷◌, ◌≡◌}
 
 -- a session that is open stays so
 

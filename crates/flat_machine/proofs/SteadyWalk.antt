@@ -3,7 +3,7 @@ use Rattle.entry_core.specs.Entries.{Entry, active_seen, entered, entry_of, entr
 use Rattle.entry_core.specs.declared.seen.Seen.{Seen}
 use Rattle.entry_core.specs.declared.seen.Seen.TheVariants.{Ended, Ignored, Took}
 use Rattle.flat_machine.specs.Commands.{work_of}
-use Rattle.flat_machine.specs.EndingFacts.{is_failed}
+use Rattle.flat_machine.specs.DiskSteps.{is_failed}
 use Rattle.flat_machine.specs.EntrySteps.{begin_as, begin_entry, begin_with, first_of, press_in, press_seen}
 use Rattle.flat_machine.specs.FinishSteps.{deletes, finish_with, imports, inits, performs, resets}
 use Rattle.flat_machine.specs.Machine.{next}

@@ -4,7 +4,8 @@ use Rattle.flat_machine.proofs.HistoryLemmas.{run_from-append}
 use Rattle.flat_machine.proofs.PowerLemmas.{plan_of_any_count}
 use Rattle.flat_machine.proofs.SteadyWalk.{steady}
 use Rattle.flat_machine.specs.Commands.{work_of}
-use Rattle.flat_machine.specs.EndingFacts.{IsStoppedSince, is_failed, loads_rows}
+use Rattle.flat_machine.specs.DiskSteps.{is_failed, is_loaded}
+use Rattle.flat_machine.specs.EndingFacts.{IsStoppedSince}
 use Rattle.flat_machine.specs.Facts.{IsStart}
 use Rattle.flat_machine.specs.FinishSteps.{finish_with, performs, plan_finish, plan_of}
 use Rattle.flat_machine.specs.Histories.{FitsFrom}
@@ -121,7 +122,7 @@ loaded_ready set h s rows f = (loaded_step set h s rows f).0
 
 -- so nothing was loaded since the call that failed, where every word fits
 
-unloaded_word : (set : Setting) (h : Flat) (s : Step) (w : DiskWord) → fits set h.shared s w ≡ true → (next set h s w).state.shared.device ≡ Stopped → not (loads_rows w) ≡ true
+unloaded_word : (set : Setting) (h : Flat) (s : Step) (w : DiskWord) → fits set h.shared s w ≡ true → (next set h s w).state.shared.device ≡ Stopped → not (is_loaded w) ≡ true
 unloaded_word set h s word.Quiet f is = refl
 unloaded_word set h s word.Done f is = refl
 unloaded_word set h s (word.Failed n) f is = refl
@@ -132,16 +133,16 @@ unloaded_word set h s (word.Loaded rows) f is = absurd (ready_not (sym (loaded_r
     ready_not e = cc
 unloaded_word set h s (word.Bad slot) f is = refl
 
-none_loaded : (set : Setting) (h : Flat) (acts : List Act) → FitsFrom set h acts → StoppedAll set h acts → list_all (λ (a : Act). not (loads_rows a.word)) acts ≡ true
+none_loaded : (set : Setting) (h : Flat) (acts : List Act) → FitsFrom set h acts → StoppedAll set h acts → list_all (λ (a : Act). not (is_loaded a.word)) acts ≡ true
 none_loaded set h [] f all = refl
-none_loaded set h (a ∷ acts) f all = and_of (not (loads_rows a.word)) _ (unloaded_word set h a.step a.word f.0 (all (a ∷ []) acts refl))
+none_loaded set h (a ∷ acts) f all = and_of (not (is_loaded a.word)) _ (unloaded_word set h a.step a.word f.0 (all (a ∷ []) acts refl))
     (none_loaded set (next set h a.step a.word).state acts f.1 (λ since later e. all (a ∷ since) later (ap (λ (xs : List Act). a ∷ xs) e)))
 
 fits_rest : (set : Setting) (h : Flat) (before after : List Act) → FitsFrom set h (before ++ after) → FitsFrom set (run_from set h before) after
 fits_rest set h [] after f = f
 fits_rest set h (a ∷ before) after f = fits_rest set (next set h a.step a.word).state before after f.1
 
-pub unloaded_since : (set : Setting) (h : Flat) (acts : List Act) (since : IsStoppedSince set h acts) → FitsFrom set h acts → IsTrue (list_all (λ (a : Act). not (loads_rows a.word)) since.after)
+pub unloaded_since : (set : Setting) (h : Flat) (acts : List Act) (since : IsStoppedSince set h acts) → FitsFrom set h acts → IsTrue (list_all (λ (a : Act). not (is_loaded a.word)) since.after)
 unloaded_since set h acts since f =
     let h2 = run_from set h since.before in
     let rest = fits_rest set h since.before (since.act ∷ since.after) (subst (FitsFrom set h) since.parts f) in

@@ -1,7 +1,6 @@
 -- What holds of each refusal, and of what passes a test, holds of the test.
 use Rattle.pad_steps.specs.declared.commands.Command.TheVariants as command
 use Rattle.pad_steps.specs.declared.answers.Refusal.TheVariants as refusal
-use Rattle.pad_steps.specs.declared.answers.Answer.TheVariants as answer
 use Rattle.key_attributes.specs.declared.Use.TheVariants as purpose
 use Rattle.key_import.specs.Imports as source
 use Rattle.pad_steps.specs.declared.commands.PinRequest.{PinRequest}
@@ -14,10 +13,15 @@ use Rattle.key_table.specs.Duplicates.{duplicate}
 use Rattle.crypt_commands.specs.Faults.{wrong_length, wrong_mac_key}
 use Rattle.crypt_commands.specs.Crypts.{sealing_key}
 use Rattle.check_values.specs.CheckValues.{check_value}
-use Rattle.flat_machine.specs.State.{Shared, device_refusal}
-use Rattle.flat_machine.specs.WorkFacts.{IsReleased, Suits, is_answer, is_crypt, is_done, is_management, manages}
+use Rattle.flat_machine.specs.State.{Shared, device_refusal, is_off, is_ready}
+use Rattle.flat_machine.specs.WorkFacts.{IsReleased, Suits, is_answer, is_crypt, is_done, is_load, is_management, is_reset, manages}
 use Rattle.entry_core.specs.Entries.{Entry, entry_of}
 use Rattle.flat_machine.specs.Commands.{erase, on_device, work_of}
+use Rattle.flat_machine.specs.DiskSteps.{is_replacing}
+use Rattle.flat_machine.specs.FinishSteps.{plan_of}
+use Rattle.flat_machine.specs.declared.types.Device.{Device}
+use Rattle.flat_machine.specs.declared.types.Device.TheVariants.{Bad, Off, Ready, Stopped}
+use Rattle.std.proofs.Common.{ap, sym, ◌∙◌}
 use Rattle.flat_machine.specs.Imports.{duplicated, import_refusal, import_work, into_slot}
 use Rattle.secure_entry.specs.PartBuffers.{part_value}
 use Rattle.flat_machine.specs.Crypts.{crypt_answer, crypt_use, crypt_work}
@@ -84,9 +88,9 @@ module _ (Holds : Work → Type 0) (refused : (r : Refusal) (accused : Option (L
       in_slot row None is = refused refusal.TableFull None
       in_slot row (Some slot) is = k slot row (check_value cipher.tdea r.verify row.value) (source.is_part r.source) is
 
-  erase-holds : (o : Option ℕ) → ((slot : ℕ) → Holds (work.Erase slot)) → Holds (erase o)
+  erase-holds : (o : Option ℕ) → ((slot : ℕ) → o ≡ Some slot → Holds (work.Erase slot)) → Holds (erase o)
   erase-holds None k = refused refusal.KeyNotFound None
-  erase-holds (Some slot) k = k slot
+  erase-holds (Some slot) k = k slot refl
 
 -- what holds of each work that a command can come to
 pub record Each (set : Setting) (p : Shared) (n : ℕ) (c : Command) (Holds : Work → Type 0) : Type 0 where
@@ -94,10 +98,10 @@ pub record Each (set : Setting) (p : Shared) (n : ℕ) (c : Command) (Holds : Wo
   pub answered : (x : Answer) → is_crypt c ≡ true → Holds (work.Answer x)
   pub maintain : (on : Bool) → manages c ≡ true → Holds (work.Maintain on)
   pub kept : (slot : ℕ) (row : KeyRow) (check : Option (List ℕ)) (from_part : Bool) → slot_for row.name p.keys ≡ Some slot → Holds (work.Keep slot row check from_part)
-  pub erased : (slot : ℕ) → Holds (work.Erase slot)
+  pub erased : (slot : ℕ) → (name : List ℕ) × (slot_of name p.keys ≡ Some slot) → Holds (work.Erase slot)
   pub erased_all : manages c ≡ true → Holds work.EraseAll
   pub released : (r : PinRequest) (first : List ℕ) (second : Option (List ℕ)) (draws : ℕ) → IsReleased set.pin_rules n c r first second draws → Holds (work.Release r first second draws)
-  pub loaded : manages c ≡ true → Holds work.Load
+  pub loaded : manages c ≡ true → is_reset c ≡ true → Holds work.Load
 
 module _ (set : Setting) (p : Shared) (n : ℕ) (Holds : Work → Type 0) where
   on : (c : Command) → Each set p n c Holds → (v : Work) → Holds v → Holds (on_device p v)
@@ -112,17 +116,17 @@ module _ (set : Setting) (p : Shared) (n : ℕ) (Holds : Work → Type 0) where
   command-holds (command.Pin r) each waits = on _ each _ (pin-holds Holds each.refused set.pin_rules p.keys n r (λ first second draws keys is. each.released r first second draws (record { of = refl; keys = keys; ready = is })))
   command-holds (command.Crypt r) each waits = on _ each _ (crypt-holds Holds each.refused set.cipher p.keys r (λ x. each.answered x refl))
   command-holds (command.ImportKey r) each waits = on _ each _ (import-holds Holds each.refused set.cipher p.keys p.part r each.kept)
-  command-holds (command.DeleteKey name) each waits = on _ each _ (erase-holds Holds each.refused (slot_of name p.keys) each.erased)
+  command-holds (command.DeleteKey name) each waits = on _ each _ (erase-holds Holds each.refused (slot_of name p.keys) (λ slot is. each.erased slot (name, is)))
   command-holds command.Init each waits = on _ each _ (each.erased_all refl)
-  command-holds command.Reset each waits = each.loaded refl
+  command-holds command.Reset each waits = each.loaded refl refl
   command-holds command.RsaImport each waits = each.refused refusal.UnsuppCommand None
 
 pub work_suits : (set : Setting) (p : Shared) (n : ℕ) (c : Command) → Suits set p n c (work_of set p n c)
-work_suits set p n c = command-holds set p n (Suits set p n c) c (record { refused = λ r accused. tt; answered = λ x crypt. tt; maintain = λ on manages. tt; kept = λ slot row x from_part is. is; erased = λ slot. tt; erased_all = λ manages. tt; released = λ r first second draws is. is; loaded = λ manages. tt }) (λ is. tt)
+work_suits set p n c = command-holds set p n (Suits set p n c) c (record { refused = λ r accused. tt; answered = λ x crypt. tt; maintain = λ on manages. tt; kept = λ slot row x from_part is. is; erased = λ slot found. found; erased_all = λ manages. tt; released = λ r first second draws is. is; loaded = λ manages reset. tt }) (λ is. tt)
 
 -- a command that is no entry does not wait
 pub work_ends : (set : Setting) (p : Shared) (n : ℕ) (c : Command) → entry_of c ≡ None → IsTrue (is_done (work_of set p n c))
-work_ends set p n c none = command-holds set p n (λ v. IsTrue (is_done v)) c (record { refused = λ r accused. refl; answered = λ x crypt. refl; maintain = λ on manages. refl; kept = λ slot row x from_part is. refl; erased = λ slot. refl; erased_all = λ manages. refl; released = λ r first second draws is. refl; loaded = λ manages. refl }) (λ is. no_entry (entry_of c) none is)
+work_ends set p n c none = command-holds set p n (λ v. IsTrue (is_done v)) c (record { refused = λ r accused. refl; answered = λ x crypt. refl; maintain = λ on manages. refl; kept = λ slot row x from_part is. refl; erased = λ slot found. refl; erased_all = λ manages. refl; released = λ r first second draws is. refl; loaded = λ manages reset. refl }) (λ is. no_entry (entry_of c) none is)
   where
     no_entry : (o : Option Entry) → o ≡ None → is_some o ≡ true → false ≡ true
     no_entry None e is = is
@@ -130,7 +134,7 @@ work_ends set p n c none = command-holds set p n (λ v. IsTrue (is_done v)) c (r
 
 -- CRYPT alone is answered at once
 pub work_answers : (set : Setting) (p : Shared) (n : ℕ) (c : Command) → is_crypt c ≡ false → is_answer (work_of set p n c) ≡ false
-work_answers set p n c other = command-holds set p n (λ v. is_answer v ≡ false) c (record { refused = λ r accused. refl; answered = λ x crypt. no_crypt (is_crypt c) other crypt; maintain = λ on manages. refl; kept = λ slot row x from_part is. refl; erased = λ slot. refl; erased_all = λ manages. refl; released = λ r first second draws is. refl; loaded = λ manages. refl }) (λ is. refl)
+work_answers set p n c other = command-holds set p n (λ v. is_answer v ≡ false) c (record { refused = λ r accused. refl; answered = λ x crypt. no_crypt (is_crypt c) other crypt; maintain = λ on manages. refl; kept = λ slot row x from_part is. refl; erased = λ slot found. refl; erased_all = λ manages. refl; released = λ r first second draws is. refl; loaded = λ manages reset. refl }) (λ is. refl)
   where
     no_crypt : (b : Bool) → b ≡ false → b ≡ true → true ≡ false
     no_crypt true other crypt = other
@@ -138,8 +142,37 @@ work_answers set p n c other = command-holds set p n (λ v. is_answer v ≡ fals
 
 -- MAINTAIN_PIN, INITIALIZATION and RESET alone come to works of their kind
 pub work_manages : (set : Setting) (p : Shared) (n : ℕ) (c : Command) → manages c ≡ false → is_management (work_of set p n c) ≡ false
-work_manages set p n c other = command-holds set p n (λ v. is_management v ≡ false) c (record { refused = λ r accused. refl; answered = λ x crypt. refl; maintain = λ on is. no_management (manages c) other is; kept = λ slot row x from_part is. refl; erased = λ slot. refl; erased_all = λ is. no_management (manages c) other is; released = λ r first second draws is. refl; loaded = λ is. no_management (manages c) other is }) (λ is. refl)
+work_manages set p n c other = command-holds set p n (λ v. is_management v ≡ false) c (record { refused = λ r accused. refl; answered = λ x crypt. refl; maintain = λ on is. no_management (manages c) other is; kept = λ slot row x from_part is. refl; erased = λ slot found. refl; erased_all = λ is. no_management (manages c) other is; released = λ r first second draws is. refl; loaded = λ is reset. no_management (manages c) other is }) (λ is. refl)
   where
     no_management : (b : Bool) → b ≡ false → b ≡ true → true ≡ false
     no_management true other is = other
     no_management false other is = cc
+
+-- RESET alone loads the store
+pub work_loads : (set : Setting) (p : Shared) (n : ℕ) (c : Command) → is_reset c ≡ false → is_load (work_of set p n c) ≡ false
+work_loads set p n c other = command-holds set p n (λ v. is_load v ≡ false) c (record { refused = λ r accused. refl; answered = λ x crypt. refl; maintain = λ on is. refl; kept = λ slot row x from_part is. refl; erased = λ slot found. refl; erased_all = λ is. refl; released = λ r first second draws is. refl; loaded = λ is reset. never (is_reset c) other reset }) (λ is. refl)
+  where
+    never : (b : Bool) → b ≡ false → b ≡ true → true ≡ false
+    never true other reset = other
+    never false other reset = cc
+
+-- slots are replaced on a device that is ready alone
+
+ready_on : (p : Shared) (v : Work) (d : Device) → p.device ≡ d → is_off d ≡ false → is_replacing (plan_of p (on_device p v)) ≡ true → is_ready d ≡ true
+ready_on p v Off is on replaces = cc
+ready_on p v Ready is on replaces = refl
+ready_on p v Stopped is on replaces = sym (ap (λ (d : Device). is_replacing (plan_of p (unless_refused (device_refusal d) v))) is) ∙ replaces
+ready_on p v (Bad slot) is on replaces = sym (ap (λ (d : Device). is_replacing (plan_of p (unless_refused (device_refusal d) v))) is) ∙ replaces
+
+pub work_ready : (set : Setting) (p : Shared) (n : ℕ) (c : Command) → is_off p.device ≡ false → is_replacing (plan_of p (work_of set p n c)) ≡ true → is_ready p.device ≡ true
+work_ready set p n (command.GetPin rules) on replaces = cc
+work_ready set p n (command.GetData rules) on replaces = cc
+work_ready set p n (command.SecureKeyEntry rules) on replaces = cc
+work_ready set p n (command.MaintainPin flag) on replaces = ready_on p _ p.device refl on replaces
+work_ready set p n (command.Pin r) on replaces = ready_on p _ p.device refl on replaces
+work_ready set p n (command.Crypt r) on replaces = ready_on p _ p.device refl on replaces
+work_ready set p n (command.ImportKey r) on replaces = ready_on p _ p.device refl on replaces
+work_ready set p n (command.DeleteKey name) on replaces = ready_on p _ p.device refl on replaces
+work_ready set p n command.Init on replaces = ready_on p _ p.device refl on replaces
+work_ready set p n command.Reset on replaces = cc
+work_ready set p n command.RsaImport on replaces = cc

@@ -2,7 +2,7 @@
 use Rattle.entry_core.specs.Entries.{active_seen, entered, is_key_part, is_pin}
 use Rattle.entry_core.specs.declared.seen.Seen.TheVariants.{Ended}
 use Rattle.flat_machine.specs.Machine.{next}
-use Rattle.flat_machine.specs.PinFacts.{EndsPin, EntryRuns}
+use Rattle.flat_machine.specs.PinFacts.{EndsPin}
 use Rattle.flat_machine.specs.RequestFacts.{endings}
 use Rattle.flat_machine.specs.Settings.{Setting}
 use Rattle.flat_machine.specs.State.{Flat, Running, Shared, is_off, running_entry}

@@ -1,5 +1,6 @@
 -- Words for why a request ends, and for what is told of a refused one.
 use Rattle.flat_machine.specs.AccessFacts.{Need, needs}
+use Rattle.flat_machine.specs.DiskSteps.{is_failed}
 use Rattle.flat_machine.specs.Machine.{Act, run_from}
 use Rattle.flat_machine.specs.RequestFacts.{Ending, endings}
 use Rattle.flat_machine.specs.Decisions.{denial}
@@ -23,8 +24,6 @@ use Rattle.pad_steps.specs.declared.answers.Reply.{Reply}
 use Rattle.pad_steps.specs.declared.answers.Reply.TheVariants as replied
 use Rattle.pad_steps.specs.declared.commands.Command.{Command}
 use Rattle.pad_steps.specs.declared.commands.Command.TheVariants as commands
-use Rattle.pad_steps.specs.declared.steps.DiskWord.{DiskWord}
-use Rattle.pad_steps.specs.declared.steps.DiskWord.TheVariants as words
 use Rattle.pad_steps.specs.declared.steps.Step.{Step}
 use Rattle.pad_steps.specs.declared.steps.Step.TheVariants as steps
 use Rattle.pad_words.specs.Numbers.{same_session}
@@ -58,21 +57,6 @@ cancels_of session (steps.Cancel other id) = same_session other session
 cancels_of session (steps.Close other) = same_session other session
 cancels_of session other = false
 
--- the step is Off
-abbrev pub is_off_step : Step → Bool
-is_off_step steps.Off = true
-is_off_step other = false
-
--- the power was cut in the step
-abbrev pub is_cut : DiskWord → Bool
-is_cut (words.Cut count) = true
-is_cut other = false
-
--- a device call of the step failed
-abbrev pub is_failed : DiskWord → Bool
-is_failed (words.Failed count) = true
-is_failed other = false
-
 -- a device call failed in the run, and at every moment since then the device is stopped
 pub record IsStoppedSince (set : Setting) (state : Flat) (acts : List Act) : Type 0 where
   pub before : List Act
@@ -81,11 +65,6 @@ pub record IsStoppedSince (set : Setting) (state : Flat) (acts : List Act) : Typ
   pub parts : acts ≡ before ++ act ∷ after
   pub failed : is_failed act.word ≡ true
   pub stopped : (since later : List Act) → since ++ later ≡ after → (run_from set state (before ++ act ∷ since)).shared.device ≡ Stopped
-
--- the word loaded rows
-abbrev pub loads_rows : DiskWord → Bool
-loads_rows (words.Loaded rows) = true
-loads_rows other = false
 
 -- one of the three refusals of a key's use
 abbrev pub is_denial : Refusal → Bool

@@ -15,7 +15,7 @@ use Rattle.pad_steps.specs.declared.answers.Refusal.{Refusal}
 use Rattle.pad_steps.specs.declared.answers.Refusal.TheVariants as refusals
 use Rattle.pad_steps.specs.declared.commands.ImportRequest.{ImportRequest}
 use Rattle.secure_entry.specs.PartBuffers.{part_value}
-use Rattle.std.specs.Prelude.{Err, List, None, Ok, Option, Result, Some, [], ℕ, ◌∷◌}
+use Rattle.std.specs.Prelude.{List, None, Option, Some, ℕ}
 
 -- the refusal of an import that makes no row
 abbrev pub import_refusal : ImportFault → Refusal

@@ -1,4 +1,4 @@
--- The flat machine: one step, and a run of steps. Open this file first. `next` has one line for each of the fourteen kinds of step; each leads to the file that defines it. Then read, in this order: State (what a state is; the rows of requests, sessions, line and entries are those of `request_queue`, `session_book`, `device_lock` and `entry_core`), Sessions and SessionSteps, RequestSteps, EntrySteps, Commands (what each command comes to) with Decisions, Imports, Crypts and PinCommands, FinishSteps (what is then done), Settings and Ciphers (what a run has from outside), Power and Arms; above them Twins, Kept, Sound, Histories, StoreHistory, and the words of the laws in Facts, EveryRun, RequestFacts, RefusalFacts, SessionFacts, QueueFacts, KeyFacts, KeyRowFacts, AccessFacts, PinFacts, WorkFacts, EndingFacts, CompletionFacts, ArmFacts, Clearing and Disclosure.
+-- The flat machine: one step, and a run of steps. Open this file first. `next` has one line for each of the fourteen kinds of step; each leads to the file that defines it. Then read, in this order: State (what a state is; the rows of requests, sessions, line and entries are those of `request_queue`, `session_book`, `device_lock` and `entry_core`), Sessions and SessionSteps, RequestSteps, EntrySteps, Commands (what each command comes to) with Decisions, Imports, Crypts and PinCommands, FinishSteps (what is then done), Settings and Ciphers (what a run has from outside), Power and Arms; above them Twins, Kept, Sound, Histories, StoreHistory with KeyLayout, DiskSteps (what a step does to a disk), Deeds and DiskRuns (runs over a disk), and the words of the laws in Facts, DiskFacts, EveryRun, RequestFacts, RefusalFacts, SessionFacts, QueueFacts, KeyFacts, KeyRowFacts, AccessFacts, PinFacts, WorkFacts, EndingFacts, CompletionFacts, ArmFacts, Clearing and Disclosure.
 use Rattle.entry_core.specs.Entries.{Entry, entry_of, is_secret}
 use Rattle.flat_machine.specs.EntrySteps.{next_begin, next_press}
 use Rattle.flat_machine.specs.FinishSteps.{next_finish, plan_finish, release_with}

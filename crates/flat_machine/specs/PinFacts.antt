@@ -7,7 +7,7 @@ use Rattle.pad_steps.specs.declared.commands.PartRules.{PartRules}
 use Rattle.pad_steps.specs.declared.steps.DiskWord.{DiskWord}
 use Rattle.std.specs.List.{list_all}
 use Rattle.flat_machine.specs.RequestSteps.{command_refusal, is_part_count}
-use Rattle.request_queue.specs.Requests.{pending_where, request_in_work}
+use Rattle.request_queue.specs.Requests.{pending_where}
 use Rattle.flat_machine.specs.State.{Flat, Shared, Running, running_entry}
 use Rattle.pin_blocks.specs.PinRules.{PinRules}
 use Rattle.request_queue.specs.declared.requests.Request.{Request}
@@ -21,7 +21,6 @@ use Rattle.pad_steps.specs.declared.answers.Event.{Event}
 use Rattle.pad_steps.specs.declared.answers.Out.{Out}
 use Rattle.pad_steps.specs.declared.answers.Reply.{Reply}
 use Rattle.pad_steps.specs.declared.answers.Shown.{Shown}
-use Rattle.pad_steps.specs.declared.commands.BlockRequest.{BlockRequest}
 use Rattle.pad_steps.specs.declared.commands.Command.{Command}
 use Rattle.pad_steps.specs.declared.steps.Step.{Step}
 use Rattle.std.specs.Prelude.{Bool, List, None, Some, [], false, is_some, length, not, true, ℕ, ◌==◌, ◌||◌, ◌∷◌, ◌≡◌, IsTrue, ◌⊎◌, ◌≤◌}
@@ -32,8 +31,6 @@ use Rattle.pad_steps.specs.declared.answers.Out.TheVariants as out
 use Rattle.pad_steps.specs.declared.answers.Reply.TheVariants as replied
 use Rattle.pad_steps.specs.declared.answers.Shown.TheVariants as shows
 use Rattle.pad_steps.specs.declared.commands.Command.TheVariants as commands
-use Rattle.pad_steps.specs.declared.commands.Form.TheVariants as forms
-use Rattle.pad_steps.specs.declared.commands.PinRequest.TheVariants as pin
 use Rattle.pad_steps.specs.declared.steps.Step.TheVariants as steps
 
 -- the key is one of the digits 0 to 9

@@ -10,9 +10,10 @@ use Rattle.pad_steps.specs.declared.steps.DiskWord.{DiskWord}
 use Rattle.std.specs.Prelude.{Bool, IsTrue, List, None, Option, Some, [], slice_get, take, ℕ, ◌∷◌, ◌≡◌}
 use Rattle.pad_steps.specs.declared.steps.DiskWord.TheVariants as words
 
--- what bytes mean to a store: the rows that they show, none where a slot is bad; the bytes with a slot replaced; and whether bytes can be left by a replacement that was struck
+-- what bytes mean to a store: the rows that they show, none where a slot is bad; the lowest bad slot, where there is one; the bytes with a slot replaced; and whether bytes can be left by a replacement that was struck
 pub record Layout : Type 0 where
   pub rows_of : List ℕ → Option KeyRows
+  pub bad_slot : List ℕ → Option ℕ
   pub put : List ℕ → ℕ → Option KeyRow → List ℕ
   pub torn : List ℕ → ℕ → Option KeyRow → List ℕ → Bool
 

@@ -6,7 +6,7 @@ use Rattle.request_queue.specs.declared.requests.Request.{Request}
 use Rattle.flat_machine.specs.Settings.{Setting}
 use Rattle.flat_machine.specs.declared.types.Work.{Work}
 use Rattle.flat_machine.specs.declared.types.Work.TheVariants as work
-use Rattle.key_table.specs.KeyRows.{slot_for}
+use Rattle.key_table.specs.KeyRows.{slot_for, slot_of}
 use Rattle.pad_steps.specs.declared.commands.Command.{Command}
 use Rattle.pad_steps.specs.declared.commands.PinRequest.{PinRequest}
 use Rattle.pin_blocks.specs.PinRules.{PinRules}
@@ -19,9 +19,10 @@ pub record IsReleased (pin_rules : PinRules) (count : ℕ) (command : Command) (
   pub keys : is_some second ≡ is_some (pin_rules.wants request).second
   pub ready : pin_rules.ready request count (length first) (option_map length second) ≡ Ok draws
 
--- the work suits the command, the state and the number of digits held: a row that is kept goes into the slot of its name; and what is released is ready
+-- the work suits the command, the state and the number of digits held: a row that is kept goes into the slot of its name; a slot that is emptied is that of a name; and what is released is ready
 abbrev pub Suits : Setting → Shared → ℕ → Command → Work → Type 0
 Suits set shared count command (work.Keep slot row check from_part) = slot_for row.name shared.keys ≡ Some slot
+Suits set shared count command (work.Erase slot) = (name : List ℕ) × (slot_of name shared.keys ≡ Some slot)
 Suits set shared count command (work.Release request first second draws) = IsReleased set.pin_rules count command request first second draws
 Suits set shared count command other = Unit {0}
 
@@ -69,3 +70,13 @@ pub record WorkIs (of_kind : Work → Bool) (set : Setting) (state : Flat) : Typ
   pub request : Request Command
   pub in_work : request_in_work state.shared.requests ≡ Some request
   pub kind : of_kind (work_of set state.shared (length state.held) request.command) ≡ true
+
+-- the command is RESET
+abbrev pub is_reset : Command → Bool
+is_reset commands.Reset = true
+is_reset other = false
+
+-- the work loads the store
+abbrev pub is_load : Work → Bool
+is_load work.Load = true
+is_load other = false

@@ -3,7 +3,9 @@
 pub mod arms;
 pub mod clearing;
 pub mod completeness;
+pub mod devices;
 pub mod disclosure;
+pub mod disk_runs;
 pub mod endings;
 pub mod histories;
 pub mod kept;

@@ -19,7 +19,9 @@ ghost use Rattle.flat_machine.specs.declared.types.Device.TheVariants.{Ready, St
 ghost use Rattle.flat_machine.specs.declared.types.Work.TheVariants as work;
 ghost use Rattle.flat_machine.specs.Commands.{work_of};
 ghost use Rattle.flat_machine.specs.CompletionFacts.{IsNext};
-ghost use Rattle.flat_machine.specs.EndingFacts.{Accuses, HasReachedLimit, IsAccused, IsRefusedAlone, IsStoppedSince, TellsRefusal, cancels_of, is_cut, is_deletion, is_denial, is_failed, is_off_step, loads_rows};
+ghost use Rattle.flat_machine.specs.EndingFacts.{Accuses, HasReachedLimit, IsAccused, IsRefusedAlone, IsStoppedSince, TellsRefusal, cancels_of, is_deletion, is_denial};
+ghost use Rattle.flat_machine.specs.DiskFacts.{is_off_step};
+ghost use Rattle.flat_machine.specs.DiskSteps.{is_cut, is_failed, is_loaded};
 ghost use Rattle.flat_machine.specs.EntrySteps.{first_of};
 ghost use Rattle.flat_machine.specs.Facts.{IsStart};
 ghost use Rattle.flat_machine.specs.Histories.{FitsFrom};
@@ -58,7 +60,7 @@ pub fn hardware_errors_are_faults()
     ensures stopped { (set : Setting) (start : Flat) (acts : List Act) →
         IsStart start → (run_from set start acts).shared.device ≡ Stopped → IsStoppedSince set start acts }
     ensures unloaded { (set : Setting) (state : Flat) (acts : List Act) (since : IsStoppedSince set state acts) →
-        FitsFrom set state acts → IsTrue (list_all (λ (act : Act). not (loads_rows act.word)) since.after) }
+        FitsFrom set state acts → IsTrue (list_all (λ (act : Act). not (is_loaded act.word)) since.after) }
     ensures loaded { (set : Setting) (state : Flat) (step : Step) (rows : KeyRows) →
         IsTrue (fits set state.shared step (words.Loaded rows)) →
         (next set state step (words.Loaded rows)).state.shared.device ≡ Ready }
