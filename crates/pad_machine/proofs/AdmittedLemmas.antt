@@ -3,9 +3,10 @@ use Rattle.entry_core.specs.Entries.{Entry, entry_of, greatest_length}
 use Rattle.entry_core.specs.Presses.{IsEntrySize}
 use Rattle.flat_machine.specs.PinFacts.{passes_submit}
 use Rattle.flat_machine.specs.RequestSteps.{import_invalid, invalid_if}
-use Rattle.pad_machine.specs.Stands.{is_admitted, pad_rules}
+use Rattle.pad_machine.specs.Stands.{is_admitted}
 use Rattle.pad_steps.specs.Formed.{is_pin_request, is_well_formed_command}
-use Rattle.pad_steps.specs.Today.{ending_keys, entry_keys, is_command_today, is_entry_today, is_kind_today, is_pin_today, same_mask}
+use Rattle.pad_steps.specs.Today.{ending_keys, entry_keys, is_command_today, is_entry_today, is_kind_today, same_mask}
+use Rattle.pin_blocks.specs.PinRules.{PinRules}
 use Rattle.pin_blocks.specs.declared.work.AdmitFault.{AdmitFault}
 use Rattle.flat_machine.specs.PinCommands.{admit_refusal}
 use Rattle.pad_steps.specs.declared.commands.Command.{Command}
@@ -17,42 +18,35 @@ use Rattle.pad_steps.specs.declared.commands.PinRequest.{PinRequest}
 use Rattle.request_queue.specs.Requests.{request_command}
 use Rattle.request_queue.specs.declared.requests.Request.{Request}
 use Rattle.std.specs.Option.{option_copied}
-use Rattle.flat_machine.specs.WorkFacts.{is_management, manages}
-use Rattle.flat_machine.specs.declared.types.Work.{Work}
-use Rattle.flat_machine.specs.declared.types.Work.TheVariants as work
-use Rattle.std.proofs.Common.{Bor, ap, arith, inl, inr, subst, sym, ◌∙◌}
+use Rattle.std.proofs.Common.{Bor, arith, subst, sym}
 use Rattle.std.proofs.lemmas.Bool.Decides.{nat_tests}
-use Rattle.std.specs.Prelude.{Bool, IfSome, IsTrue, None, Option, Some, false, if◌then◌else◌, is_some, not, option_map, refl, true, ℕ, ◌&&◌, ◌==◌, ◌≡◌, ◌≤◌}
-use mathlib.Core.Logic.{◌⊎◌}
+use Rattle.std.specs.Prelude.{Bool, IfSome, IsTrue, None, Option, Some, false, is_some, not, option_map, refl, true, ℕ, ◌&&◌, ◌==◌, ◌≡◌, ◌≤◌}
 
-both_left : (a b : Bool) → (a && b) ≡ true → a ≡ true
+pub both_left : (a b : Bool) → (a && b) ≡ true → a ≡ true
 both_left true b e = refl
 both_left false b e = cc
 
-both_right : (a b : Bool) → (a && b) ≡ true → b ≡ true
+pub both_right : (a b : Bool) → (a && b) ≡ true → b ≡ true
 both_right true b e = e
 both_right false b e = cc
 
-admitted-today : (c : Command) → IsTrue (is_admitted c) → is_command_today c ≡ true
-admitted-today c admitted = both_left (is_command_today c) (passes_submit pad_rules c) admitted
+admitted-today : (pin_rules : PinRules) → (c : Command) → IsTrue (is_admitted pin_rules c) → is_command_today c ≡ true
+admitted-today pin_rules c admitted = both_left (is_command_today c) (passes_submit pin_rules c) admitted
 
-admitted-passes : (c : Command) → IsTrue (is_admitted c) → passes_submit pad_rules c ≡ true
-admitted-passes c admitted = both_right (is_command_today c) (passes_submit pad_rules c) admitted
+admitted-passes : (pin_rules : PinRules) → (c : Command) → IsTrue (is_admitted pin_rules c) → passes_submit pin_rules c ≡ true
+admitted-passes pin_rules c admitted = both_right (is_command_today c) (passes_submit pin_rules c) admitted
 
-pub pin-formed : (c : Command) (request : PinRequest) → c ≡ command.Pin request → IsTrue (is_admitted c) → is_pin_request request ≡ true
-pin-formed c request is admitted = both_left (is_pin_request request) (is_kind_today (command.Pin request)) (admitted-today (command.Pin request) (subst (λ (d : Command). IsTrue (is_admitted d)) is admitted))
+pub pin-formed : (pin_rules : PinRules) → (c : Command) (request : PinRequest) → c ≡ command.Pin request → IsTrue (is_admitted pin_rules c) → is_pin_request request ≡ true
+pin-formed pin_rules c request is admitted = both_left (is_pin_request request) (is_kind_today (command.Pin request)) (admitted-today pin_rules (command.Pin request) (subst (λ (d : Command). IsTrue (is_admitted pin_rules d)) is admitted))
 
 none_admitted : (fault : Option AdmitFault) → not (is_some (option_map admit_refusal fault)) ≡ true → fault ≡ None
 none_admitted None e = refl
 none_admitted (Some fault) e = cc
 
-pub pin-admitted : (c : Command) (request : PinRequest) → c ≡ command.Pin request → IsTrue (is_admitted c) → pad_rules.admit request ≡ None
-pin-admitted c request is admitted = none_admitted (pad_rules.admit request) (admitted-passes (command.Pin request) (subst (λ (d : Command). IsTrue (is_admitted d)) is admitted))
+pub pin-admitted : (pin_rules : PinRules) → (c : Command) (request : PinRequest) → c ≡ command.Pin request → IsTrue (is_admitted pin_rules c) → pin_rules.admit request ≡ None
+pin-admitted pin_rules c request is admitted = none_admitted (pin_rules.admit request) (admitted-passes pin_rules (command.Pin request) (subst (λ (d : Command). IsTrue (is_admitted pin_rules d)) is admitted))
 
-pub pin-today : (c : Command) (request : PinRequest) → c ≡ command.Pin request → IsTrue (is_admitted c) → is_pin_today request ≡ true
-pin-today c request is admitted = both_right (is_pin_request request) (is_pin_today request) (admitted-today (command.Pin request) (subst (λ (d : Command). IsTrue (is_admitted d)) is admitted))
-
--- an entry takes no more digits than one of its kind may, and is one of a PIN; and no command that is taken today manages
+-- an entry takes no more digits than one of its kind may, and is one of a PIN
 
 rules-max : (rules : EntryRules) → is_entry_today rules ≡ true → rules.max ≡ 16
 rules-max rules e =
@@ -64,35 +58,31 @@ rules-max rules e =
 record IsPlain (c : Command) : Type 0 where
   size : IsEntrySize (entry_of c)
   pin : (entry : Entry) → Some entry ≡ entry_of c → entry.kind ≡ Pin
-  manages : manages c ≡ false
 
 same_kind : (entry other : Entry) → other.kind ≡ Pin → Some entry ≡ Some other → entry.kind ≡ Pin
 same_kind entry other pin e = cc
 
 plain : (c : Command) → is_kind_today c ≡ true → IsPlain c
-plain (command.GetPin rules) e = record { size = subst (λ (most : ℕ). greatest_length most ≤ 16) (sym (rules-max rules e)) (omega arith); pin = λ entry is. same_kind entry _ refl is; manages = refl }
+plain (command.GetPin rules) e = record { size = subst (λ (most : ℕ). greatest_length most ≤ 16) (sym (rules-max rules e)) (omega arith); pin = λ entry is. same_kind entry _ refl is }
 plain (command.GetData rules) e = absurd cc
 plain (command.SecureKeyEntry rules) e = absurd cc
 plain (command.MaintainPin on) e = absurd cc
-plain (command.Pin request) e = record { size = tt; pin = λ entry is. cc; manages = refl }
-plain (command.Crypt request) e = record { size = tt; pin = λ entry is. cc; manages = refl }
-plain (command.ImportKey request) e = record { size = tt; pin = λ entry is. cc; manages = refl }
-plain (command.DeleteKey name) e = record { size = tt; pin = λ entry is. cc; manages = refl }
-plain command.Init e = absurd cc
-plain command.Reset e = absurd cc
-plain command.RsaImport e = record { size = tt; pin = λ entry is. cc; manages = refl }
+plain (command.Pin request) e = record { size = tt; pin = λ entry is. cc }
+plain (command.Crypt request) e = record { size = tt; pin = λ entry is. cc }
+plain (command.ImportKey request) e = record { size = tt; pin = λ entry is. cc }
+plain (command.DeleteKey name) e = record { size = tt; pin = λ entry is. cc }
+plain command.Init e = record { size = tt; pin = λ entry is. cc }
+plain command.Reset e = record { size = tt; pin = λ entry is. cc }
+plain command.RsaImport e = record { size = tt; pin = λ entry is. cc }
 
-admitted-plain : (c : Command) → IsTrue (is_admitted c) → IsPlain c
-admitted-plain c admitted = plain c (both_right (is_well_formed_command c) (is_kind_today c) (admitted-today c admitted))
+admitted-plain : (pin_rules : PinRules) → (c : Command) → IsTrue (is_admitted pin_rules c) → IsPlain c
+admitted-plain pin_rules c admitted = plain c (both_right (is_well_formed_command c) (is_kind_today c) (admitted-today pin_rules c admitted))
 
-pub admitted_size : (c : Command) → IsTrue (is_admitted c) → IsEntrySize (entry_of c)
-admitted_size c admitted = (admitted-plain c admitted).size
+pub admitted_size : (pin_rules : PinRules) → (c : Command) → IsTrue (is_admitted pin_rules c) → IsEntrySize (entry_of c)
+admitted_size pin_rules c admitted = (admitted-plain pin_rules c admitted).size
 
-pub admitted_pin : (c : Command) (entry : Entry) → IsTrue (is_admitted c) → Some entry ≡ entry_of c → entry.kind ≡ Pin
-admitted_pin c entry admitted is = (admitted-plain c admitted).pin entry is
-
-pub admitted-manages : (c : Command) → IsTrue (is_admitted c) → manages c ≡ false
-admitted-manages c admitted = (admitted-plain c admitted).manages
+pub admitted_pin : (pin_rules : PinRules) → (c : Command) (entry : Entry) → IsTrue (is_admitted pin_rules c) → Some entry ≡ entry_of c → entry.kind ≡ Pin
+admitted_pin pin_rules c entry admitted is = (admitted-plain pin_rules c admitted).pin entry is
 
 -- an import is valid
 
@@ -100,8 +90,8 @@ valid : (b : Bool) → not (is_some (invalid_if b)) ≡ true → b ≡ false
 valid true e = cc
 valid false e = refl
 
-pub import-valid : (request : ImportRequest) → IsTrue (is_admitted (command.ImportKey request)) → import_invalid request ≡ false
-import-valid request admitted = valid (import_invalid request) (admitted-passes (command.ImportKey request) admitted)
+pub import-valid : (pin_rules : PinRules) → (request : ImportRequest) → IsTrue (is_admitted pin_rules (command.ImportKey request)) → import_invalid request ≡ false
+import-valid pin_rules request admitted = valid (import_invalid request) (admitted-passes pin_rules (command.ImportKey request) admitted)
 
 -- the command of the request in work may wait
 
@@ -109,24 +99,11 @@ same_command : (c d : Command) → Some c ≡ Some d → d ≡ c
 same_command c d is = cc
 
 -- a command that was found in a request that passes may wait
-found-admitted : (found : Option (Request Command)) (c : Command) → ((request : Request Command) → found ≡ Some request → IsTrue (is_admitted request.command)) → Some c ≡ option_map request_command found → IsTrue (is_admitted c)
-found-admitted None c passes is = cc
-found-admitted (Some request) c passes is = subst (λ (d : Command). IsTrue (is_admitted d)) (same_command c request.command is) (passes request refl)
+found-admitted : (pin_rules : PinRules) → (found : Option (Request Command)) (c : Command) → ((request : Request Command) → found ≡ Some request → IsTrue (is_admitted pin_rules request.command)) → Some c ≡ option_map request_command found → IsTrue (is_admitted pin_rules c)
+found-admitted pin_rules None c passes is = cc
+found-admitted pin_rules (Some request) c passes is = subst (λ (d : Command). IsTrue (is_admitted pin_rules d)) (same_command c request.command is) (passes request refl)
 
-pub if_found-admitted : (found : Option (Request Command)) (result : Option (Bor Command)) → ((request : Request Command) → found ≡ Some request → IsTrue (is_admitted request.command))
-    → option_copied result ≡ option_map request_command found → IfSome result (λ command. IsTrue (is_admitted command.now))
-if_found-admitted found None passes is = tt
-if_found-admitted found (Some command) passes is = found-admitted found command.now passes is
-
--- a work that was decided is none of management
-pub no_management : (v decided : Work) → v ≡ decided → is_management decided ≡ false → is_management v ≡ true → ⊥
-no_management v decided is other management = never (is_management v) (ap is_management is ∙ other) management
-  where
-    never : (b : Bool) → b ≡ false → b ≡ true → ⊥
-    never true other is = cc
-    never false other is = cc
-
-pub managed : (v : Work) → ((on : Bool) × (v ≡ work.Maintain on)) ⊎ ((v ≡ work.EraseAll) ⊎ (v ≡ work.Load)) → is_management v ≡ true
-managed v (inl maintains) = ap is_management maintains.1
-managed v (inr (inl erases)) = ap is_management erases
-managed v (inr (inr loads)) = ap is_management loads
+pub if_found-admitted : (pin_rules : PinRules) → (found : Option (Request Command)) (result : Option (Bor Command)) → ((request : Request Command) → found ≡ Some request → IsTrue (is_admitted pin_rules request.command))
+    → option_copied result ≡ option_map request_command found → IfSome result (λ command. IsTrue (is_admitted pin_rules command.now))
+if_found-admitted pin_rules found None passes is = tt
+if_found-admitted pin_rules found (Some command) passes is = found-admitted pin_rules found command.now passes is

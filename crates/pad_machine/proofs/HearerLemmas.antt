@@ -1,11 +1,10 @@
 -- There are no more hearers than sessions.
 use Rattle.pad_steps.specs.declared.steps.Class.{Class}
-use Rattle.pad_words.specs.declared.numbers.Session.{Session}
 use Rattle.session_book.specs.Sessions.{has_class, hearers}
 use Rattle.session_book.specs.declared.sessions.SessionRow.{SessionRow}
 use Rattle.std.proofs.Common.{arith}
 use Rattle.std.proofs.lemmas.List.{length-map}
-use Rattle.std.specs.Prelude.{Bool, List, [], false, filter, if◌then◌else◌, length, map, suc, true, ℕ, ◌∷◌, ◌≤◌}
+use Rattle.std.specs.Prelude.{Bool, List, [], false, filter, if◌then◌else◌, length, suc, true, ◌∷◌, ◌≤◌}
 
 one_more : (b : Bool) (row : SessionRow) (kept rows : List SessionRow) → length kept ≤ length rows → length (if b then row ∷ kept else kept) ≤ suc (length rows)
 one_more true row kept rows few = omega (arith, few)

@@ -1,3 +1,10 @@
 pub mod AdmittedLemmas
+pub mod BeginLemmas
+pub mod DeviceLemmas
+pub mod FinishLemmas
 pub mod HearerLemmas
+pub mod LossLemmas
+pub mod PendingLemmas
+pub mod PlanLemmas
+pub mod ResetLemmas
 pub mod StepLemmas

@@ -1,7 +1,7 @@
 -- What a method of the pad does.
 use Rattle.flat_machine.specs.Kept.{Kept, KeptAfter, kept_said}
 use Rattle.flat_machine.specs.State.{Said, Shared}
-use Rattle.pad_machine.specs.Stands.{Whole, kept_by, shared_of}
+use Rattle.pad_machine.specs.Stands.{PadState, Whole, kept_by, shared_of}
 use Rattle.pad_steps.specs.Lines.{OutList}
 use Rattle.pad_steps.specs.declared.answers.Out.{Out}
 use Rattle.std.specs.Prelude.{List, ℕ, ◌++◌, ◌≡◌}
@@ -16,5 +16,5 @@ abbrev pub Does : Whole → Whole → OutList → OutList → (Shared → List �
 Does old new before after effect = Becomes new before after (kept_said (kept_by old) (effect (shared_of old.common) old.held))
 
 -- pad and outs are as before
-abbrev pub Undone : Kept → Kept → List Out → List Out → Type 0
+abbrev pub Undone : PadState → PadState → List Out → List Out → Type 0
 Undone old new before after = (new ≡ old) × (after ≡ before)

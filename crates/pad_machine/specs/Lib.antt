@@ -1,5 +1,6 @@
 pub mod Does
 pub mod Memory
 pub mod Prepares
+pub mod Replacing
 pub mod Runs
 pub mod Stands

@@ -1,26 +1,35 @@
 -- What a step of the pad is.
-use Rattle.flat_machine.specs.Kept.{FitRunning, Kept}
-use Rattle.flat_machine.specs.Machine.{fits, next, planned, release}
+use Rattle.disk_core.specs.DiskStates.{DiskState}
+use Rattle.flat_machine.specs.DiskSteps.{IsTied, StepOnDisk}
+use Rattle.flat_machine.specs.KeyLayout.{key_layout}
+use Rattle.flat_machine.specs.Machine.{next, release}
+use Rattle.flat_machine.specs.Power.{word_fate}
 use Rattle.flat_machine.specs.State.{Flat}
 use Rattle.flat_machine.specs.Twins.{Alike, AlikeAfter, TwinSteps}
-use Rattle.pad_machine.specs.Stands.{IsSound, StandsFor, set_by}
+use Rattle.pad_machine.specs.Stands.{PadState, StandsFor, set_by, set_of}
+use Rattle.pad_machine.specs.declared.pad.Stepped.{Stepped}
 use Rattle.pad_steps.specs.declared.answers.Out.{Out}
 use Rattle.pad_steps.specs.declared.steps.DiskWord.{DiskWord}
 use Rattle.pad_steps.specs.declared.steps.Step.{Step}
-use Rattle.std.specs.Prelude.{IsTrue, List, ℕ, ◌++◌, ◌≡◌}
+use Rattle.pin_blocks.specs.PinRules.{PinRules}
+use Rattle.std.specs.Prelude.{List, ℕ, ◌++◌, ◌≡◌}
 
--- what holds of every value of a pad: the digits fit the running entry, and pending commands may wait
-pub record IsPadState (kept : Kept) : Type 0 where
-  pub digits : FitRunning kept
-  pub sound : IsSound kept.shared
+-- from this state, in a run of this seed, the step is the machine's: the pad stands for the machine's next state, says what the machine says, and answers the fate of a loading
+pub record IsMachineStep (pin_rules : PinRules) (new : PadState) (before after : List Out) (step : Step) (stepped : Stepped) (seed : List ℕ) (state : Flat) : Type 0 where
+  pub stands : StandsFor new seed (next (set_by pin_rules seed) state step stepped.word).state
+  pub outs : after ≡ before ++ (next (set_by pin_rules seed) state step stepped.word).outs
+  pub fate : stepped.fate ≡ word_fate state.shared stepped.word
 
--- from this state, in a run of this seed, the step is the machine's: its word fits where no device call is planned, the pad stands for the machine's next state, and says what the machine says
-pub record IsMachineStep (new : Kept) (before after : List Out) (step : Step) (word : DiskWord) (seed : List ℕ) (state : Flat) : Type 0 where
-  pub fits : planned (set_by seed) state.shared step ≡ 0 → IsTrue (fits (set_by seed) state.shared step word)
-  pub stands : StandsFor new seed (next (set_by seed) state step word).state
-  pub outs : after ≡ before ++ (next (set_by seed) state step word).outs
+-- pad and disk belong together
+abbrev pub PadIsTied : PadState → DiskState → Type 0
+PadIsTied pad disk = IsTied pad.kept.shared pad.stored disk
+
+-- the step on the disk: its word fits, the disk did it, and what the disk has now is what the store's history allows
+abbrev pub PadStepOnDisk : PinRules → PadState → PadState → Step → DiskWord → DiskState → DiskState → Type 0
+PadStepOnDisk pin_rules old new step word s t = StepOnDisk key_layout (set_of pin_rules old.kept) old.kept.shared new.kept.shared step word s t
 
 -- a state that is alike takes a twin of the step and releases the same: then it says the same, and stays alike
-abbrev pub Unwinds : Step → DiskWord → List ℕ → Flat → Type 0
-Unwinds step word seed state = (other : Flat) (twin : Step) → Alike state other → TwinSteps state.shared step twin → release (set_by seed) other twin ≡ release (set_by seed) state step
-    → AlikeAfter (next (set_by seed) state step word) (next (set_by seed) other twin word)
+abbrev pub Unwinds : PinRules → Step → DiskWord → List ℕ → Flat → Type 0
+Unwinds pin_rules step word seed state = (other : Flat) (twin : Step) → Alike state other → TwinSteps state.shared step twin
+    → release (set_by pin_rules seed) other twin ≡ release (set_by pin_rules seed) state step
+    → AlikeAfter (next (set_by pin_rules seed) state step word) (next (set_by pin_rules seed) other twin word)

@@ -1,14 +1,13 @@
 -- What the pad keeps, and of which state.
-use Rattle.des_core.specs.TripleDes.{tdea_bytes}
-use Rattle.entry_core.specs.Entries.{entry_of}
-use Rattle.flat_machine.specs.Kept.{Kept, kept_of}
+use Rattle.flat_machine.specs.DiskSteps.{IsReadyStore}
+use Rattle.flat_machine.specs.Kept.{FitRunning, Kept, kept_of}
 use Rattle.flat_machine.specs.PinFacts.{passes_submit}
 use Rattle.flat_machine.specs.Settings.{Setting, setting_with}
 use Rattle.flat_machine.specs.Sound.{Sound}
-use Rattle.flat_machine.specs.State.{Flat, Shared, Running}
-use Rattle.flat_machine.specs.declared.types.Device.TheVariants.{Ready}
-use Rattle.key_table.specs.KeyRows.{KeyRows}
-use Rattle.local_check.specs.StandardWork.{standard_rules}
+use Rattle.flat_machine.specs.State.{Flat, Running, Shared}
+use Rattle.flat_machine.specs.declared.types.Device.{Device}
+use Rattle.key_table.specs.Changes.{Change}
+use Rattle.key_table.specs.KeyStores.{KeyStore}
 use Rattle.pad_machine.specs.declared.running_entry.RunningEntry.{RunningEntry}
 use Rattle.pad_steps.specs.Today.{is_command_today}
 use Rattle.pad_steps.specs.declared.answers.Reply.{Reply}
@@ -16,60 +15,80 @@ use Rattle.pad_steps.specs.declared.commands.Command.{Command}
 use Rattle.pad_words.specs.declared.numbers.Session.{Session}
 use Rattle.pin_blocks.specs.FillWords.{fill_word}
 use Rattle.pin_blocks.specs.PinRules.{PinRules}
+use Rattle.request_queue.specs.Requests.{gone_count}
 use Rattle.request_queue.specs.declared.requests.RequestRow.{RequestRow}
 use Rattle.session_book.specs.declared.sessions.SessionRow.{SessionRow}
-use Rattle.std.specs.Prelude.{Bool, List, None, [], false, replicate, true, ℕ, ◌&&◌, ◌+◌, ◌≡◌, ◌∷◌}
+use Rattle.std.specs.Prelude.{Bool, List, Option, ℕ, ◌&&◌, ◌*◌, ◌≡◌, ◌≤◌}
 
--- the PIN work of the pad: blocks and checks
-abbrev pub pad_rules : PinRules
-pad_rules = standard_rules tdea_bytes
-
--- what a pad of this seed has from outside
-abbrev pub set_by : List ℕ → Setting
-set_by seed = setting_with pad_rules (fill_word seed)
+-- what a pad of this PIN work and this seed has from outside
+abbrev pub set_by : PinRules → List ℕ → Setting
+set_by pin_rules seed = setting_with pin_rules (fill_word seed)
 
 -- what a pad has from outside
-abbrev pub set_of : Kept → Setting
-set_of kept = set_by kept.seed
+abbrev pub set_of : PinRules → Kept → Setting
+set_of pin_rules kept = set_by pin_rules kept.seed
 
--- the seed of a pad that is given none: 32 zero bytes
-abbrev pub zero_seed : List ℕ
-zero_seed = replicate 32 0
+-- what the pad keeps, and the bytes that its store has, where it is settled
+pub record PadState : Type 0 where
+  pub kept : Kept
+  pub stored : Option (List ℕ)
 
 -- what the pad keeps is that of this state, in a run of this seed
-abbrev pub StandsFor : Kept → List ℕ → Flat → Type 0
-StandsFor kept seed state = kept ≡ kept_of seed state
+abbrev pub StandsFor : PadState → List ℕ → Flat → Type 0
+StandsFor pad seed state = pad.kept ≡ kept_of seed state
 
 -- a command that may wait: it is taken today, and Submit does not refuse it
-abbrev pub is_admitted : Command → Bool
-is_admitted command = is_command_today command && passes_submit pad_rules command
+abbrev pub is_admitted : PinRules → Command → Bool
+is_admitted pin_rules command = is_command_today command && passes_submit pin_rules command
 
 -- every pending command may wait
-abbrev pub IsSound : Shared → Type 0
-IsSound shared = Sound is_admitted shared
+abbrev pub IsSound : PinRules → Shared → Type 0
+IsSound pin_rules shared = Sound (is_admitted pin_rules) shared
 
--- what is the same in twins, of a pad that is on: keys, sessions, the line for the lock, requests and the part buffer; and how many requests more it takes without memory
+-- what holds of every value of a pad: the digits fit the running entry; pending commands may wait, and none does while the device is off; the store of a ready device shows its keys; and each ended request has drawn at most 255 fill words
+pub record IsPadState (pin_rules : PinRules) (pad : PadState) : Type 0 where
+  pub digits : FitRunning pad.kept
+  pub sound : IsSound pin_rules pad.kept.shared
+  pub ready : IsReadyStore pad.kept.shared pad.stored
+  pub few : pad.kept.shared.drawn ≤ 255 * gone_count pad.kept.shared.requests
+
+-- what is the same in twins: the table over its store, the device, the slot in doubt, whether a loading succeeded, sessions, the line for the lock, requests, the clock, the part buffer, whether a used PIN is maintained, and the fill words drawn; and how many requests more it takes without memory
 pub record Common : Type 0 where
-  pub keys : KeyRows
+  pub device : Device
+  pub store : KeyStore
+  pub doubt : Option Change
+  pub loaded : Bool
   pub sessions : List SessionRow
   pub line : List Session
   pub requests : List (RequestRow Command Reply)
+  pub clock : ℕ
   pub part : List ℕ
+  pub maintain : Bool
+  pub drawn : ℕ
   pub room : ℕ
+
+-- each ended request has drawn at most 255 fill words
+abbrev pub DrawnFew : Common → Type 0
+DrawnFew common = common.drawn ≤ 255 * gone_count common.requests
 
 -- its shared part
 abbrev pub shared_of : Common → Shared
-shared_of common = record { device = Ready; keys = common.keys; doubt = None; loaded = false; sessions = common.sessions; line = common.line; requests = common.requests; clock = 0; part = common.part; maintain = false; drawn = 0 }
+shared_of common = record { device = common.device; keys = common.store.rows; doubt = common.doubt; loaded = common.loaded; sessions = common.sessions; line = common.line; requests = common.requests; clock = common.clock; part = common.part; maintain = common.maintain; drawn = common.drawn }
 
--- what is the same in twins, the digits of the running entry, and those of the held PIN
+-- the seed, what is the same in twins, the digits of the running entry, and those of the held PIN
 pub record Whole : Type 0 where
+  pub seed : List ℕ
   pub common : Common
   pub digits : List ℕ
   pub held : List ℕ
 
 -- what is kept, without the room
 abbrev pub kept_by : Whole → Kept
-kept_by whole = record { seed = zero_seed; shared = shared_of whole.common; digits = whole.digits; held = whole.held }
+kept_by whole = record { seed = whole.seed; shared = shared_of whole.common; digits = whole.digits; held = whole.held }
+
+-- the same, with the bytes of the store
+abbrev pub pad_state : Whole → PadState
+pad_state whole = record { kept = kept_by whole; stored = whole.common.store.bytes }
 
 -- the running entry that the code names by its owner and its rules
 abbrev pub running_of : RunningEntry → Running

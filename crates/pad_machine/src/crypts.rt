@@ -8,15 +8,19 @@ use crate::refusals::{denied, refused};
 use crypt_commands::{CryptFault, CryptOut, run_crypt};
 use flat_machine::types::Work;
 use key_attributes::Use;
-use key_table::KeyTable;
+use key_table::StoredKeys;
 use pad_steps::{Algorithm, Answer, CryptRequest, Refusal, Start};
 use pad_words::NoMemory;
 use std::alloc::Global;
 
 /// What CRYPT comes to.
-pub fn crypt_work(alloc: Global, keys: &KeyTable, request: &CryptRequest) -> Result<Work, NoMemory>
+pub fn crypt_work(
+    alloc: Global,
+    keys: &StoredKeys,
+    request: &CryptRequest,
+) -> Result<Work, NoMemory>
     requires { is_cfb request.now.algorithm ≡ false }
-    ensures work { IfOk result (λ work. work ≡ crypt_work triple_des keys.now request.now) }
+    ensures work { IfOk result (λ work. work ≡ crypt_work triple_des keys.now.rows request.now) }
 {
     let key = match keys.permit(&request.key, crypt_use(request.algorithm)) {
         Ok(key) => key,

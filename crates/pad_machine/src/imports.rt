@@ -9,14 +9,14 @@ use check_values::check_value;
 use flat_machine::types::Work;
 use key_attributes::Use;
 use key_import::{ImportFault, decide_import};
-use key_table::KeyTable;
+use key_table::StoredKeys;
 use pad_steps::{ImportRequest, ImportSource, Refusal};
 use secure_entry::PartBuffer;
 
 /// What an import comes to.
-pub fn import_work(keys: &KeyTable, part: &PartBuffer, request: &ImportRequest) -> Work
+pub fn import_work(keys: &StoredKeys, part: &PartBuffer, request: &ImportRequest) -> Work
     requires { import_invalid request.now ≡ false }
-    ensures { result ≡ import_work triple_des keys.now part.now request.now }
+    ensures { result ≡ import_work triple_des keys.now.rows part.now request.now }
 {
     let kek = match &request.source {
         ImportSource::Clear(_) | ImportSource::Part => None,

@@ -17,6 +17,8 @@ pub enum KeylessStep<'a> {
     Begin,
     Finish,
     Press,
+    Off,
+    Boot,
 }
 
 /// The step without its key.
@@ -32,6 +34,8 @@ pub fn without_key(step: &Step) -> KeylessStep<'_>
         Step::Begin => KeylessStep::Begin,
         Step::Finish => KeylessStep::Finish,
         Step::Press(_) => KeylessStep::Press,
+        Step::Off => KeylessStep::Off,
+        Step::Boot => KeylessStep::Boot,
         // No line spells the others.
         _ => unreachable!(),
     }

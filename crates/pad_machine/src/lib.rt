@@ -2,6 +2,8 @@
 #![tactic(auto)]
 
 mod crypts;
+mod doubt;
+mod fates;
 mod imports;
 mod keyless;
 mod pad;

@@ -1,23 +1,24 @@
 //! The pad and its step.
-ghost use Rattle.std.specs.Prelude.{◌≡◌, ◌<◌, ◌≤◌, ◌+◌, ◌-◌, ◌^◌, ℕ, List, IsTrue, IfOk, IfSome, IsOk, OnOk, OnErr, Some, false, length};
-ghost use Rattle.flat_machine.specs.Machine.{is_masked, next_work};
-ghost use Rattle.flat_machine.specs.State.{Flat, is_off, ready_opening};
+ghost use Rattle.std.specs.Prelude.{◌≡◌, ◌<◌, ◌≤◌, ◌+◌, ◌-◌, ◌^◌, ℕ, List, IsTrue, IfOk, IfSome, IsOk, OnErr, OnOk, Some, false, length, true};
+ghost use Rattle.flat_machine.specs.Machine.{is_masked, next_work, status};
+ghost use Rattle.flat_machine.specs.RequestFacts.{draws, work_left};
+ghost use Rattle.flat_machine.specs.State.{Flat, is_off, is_ready, opening};
 ghost use Rattle.pad_machine.specs.Does.{Undone};
 ghost use Rattle.pad_machine.specs.Memory.{places_for, takes_memory};
-ghost use Rattle.pad_machine.specs.Runs.{IsMachineStep, Unwinds};
-ghost use Rattle.flat_machine.specs.RequestFacts.{draws, work_left};
-ghost use Rattle.pad_machine.specs.Stands.{StandsFor, zero_seed};
+ghost use Rattle.pad_machine.specs.Runs.{IsMachineStep, PadIsTied, PadStepOnDisk, Unwinds};
+ghost use Rattle.pad_machine.specs.Stands.{StandsFor};
 ghost use Rattle.pad_steps.specs.Today.{is_taken_today};
-ghost use Rattle.pad_steps.specs.declared.steps.DiskWord.TheVariants.{Quiet};
 
 use crate::keyless::{pressed_key, without_key};
 use crate::parts::Parts;
+use disk_core::PowerDisk;
+use flat_machine::laws::devices::few_words_are_drawn;
 use flat_machine::laws::kept::{digits_fit_their_entry, kept_steps, pending_stay_sound};
 use flat_machine::laws::requests::due_steps_come_to_an_end;
 use flat_machine::laws::twins::unwinding;
-use flat_machine::laws::works::no_call_is_quiet;
-use pad_steps::{DiskWord, Outs, Step};
+use pad_steps::{DiskWord, Fate, Outs, Step};
 use pad_words::NoMemory;
+use pin_blocks::PinWork;
 use std::alloc::Global;
 use std::marker::Model;
 
@@ -25,81 +26,95 @@ use std::marker::Model;
 #[derive(Drop)]
 pub struct Stepped {
     pub word: DiskWord,
+    /// How the rows that were loaded compare with those that were kept. It is there for a loading that succeeded alone.
+    pub fate: Option<Fate>,
 }
 
 /// The pad: what is the same in twins, the digits of the running entry, and the held PIN.
 #[derive(Drop)]
-pub struct Pad {
-    parts: Parts,
+pub struct Pad<W: PinWork> {
+    parts: Parts<W>,
 }
 
-impl Model for Pad {
-    ghost use Rattle.flat_machine.specs.Kept.{Kept};
-    ghost use Rattle.pad_machine.specs.Runs.{IsPadState};
-    ghost use Rattle.pad_machine.specs.Stands.{kept_by};
+impl<W: PinWork> Model for Pad<W> {
+    ghost use Rattle.pad_machine.specs.Stands.{IsPadState, PadState, pad_state};
 
-    ghost Value = { Kept };
+    ghost Value = { PadState };
 
-    ghost view = { λ p. kept_by p.parts };
+    ghost view = { λ p. pad_state p.parts };
 
-    ghost invariant = { λ p. IsPadState (kept_by p.parts) };
+    ghost invariant = { λ p. IsPadState W.rules (pad_state p.parts) };
 }
 
-impl Pad {
-    /// A pad that is on, with no key, and nothing open, asked or held. It takes the memory for all its keys.
-    pub fn new(alloc: Global) -> Result<Pad, NoMemory>
-        ensures { IfOk result (λ pad. StandsFor pad zero_seed ready_opening) }
+impl<W: PinWork + Drop> Pad<W> {
+    /// A pad that is off, over this PIN work, with this seed of its fill words. It takes the memory for all its keys.
+    pub fn new(alloc: Global, work: W, seed: [u8; 32]) -> Result<Pad<W>, NoMemory>
+        ensures { IfOk result (λ pad. StandsFor pad seed opening) }
     {
         Ok(Pad {
-            parts: Parts::new(alloc)?,
+            parts: Parts::new(alloc, work, seed)?,
         })
     }
 
-    /// Takes one step, and appends what it says. After want of memory all is as before.
+    /// Takes one step over its disk, and appends what it says. After want of memory all is as before.
     ///
     /// First all memory is taken, by what sees neither a digit nor the key of a press; then the step is done, which cannot
-    /// fail. So no digit decides whether memory is wanting.
-    pub fn step(&mut self, step: &Step, out: &mut Outs) -> Result<Stepped, NoMemory>
+    /// fail. So no digit decides whether memory is wanting, and no memory is wanting once the disk was called.
+    pub fn step<D: PowerDisk>(
+        &mut self,
+        disk: &mut D,
+        step: &Step,
+        out: &mut Outs,
+    ) -> Result<Stepped, NoMemory>
         requires taken { IsTrue (is_taken_today step.now) }
-        requires ids { length self.old.shared.requests < 2 ^ 32 - 2 }
+        requires ids { length self.old.kept.shared.requests < 2 ^ 32 - 2 }
 
-        // There is no disk: a step that replaces a key comes to what a disk does that never fails.
-        ensures quiet { IfOk result (λ stepped. stepped.word ≡ Quiet) }
+        // The disk is on while the device is not off, and has the store's bytes while it is ready; and so it is after the step.
+        requires tied { PadIsTied self.old (D.state disk.old) }
+        ensures tied { OnOk result (PadIsTied self.new (D.state disk.new)) }
         ensures machine { IfOk result (λ stepped. (seed : List ℕ) (state : Flat) → StandsFor self.old seed state →
-            IsMachineStep self.new out.old.items out.new.items step.now stepped.word seed state) }
+            IsMachineStep W.rules self.new out.old.items out.new.items step.now stepped seed state) }
+        ensures on_disk { IfOk result (λ stepped.
+            PadStepOnDisk W.rules self.old self.new step.now stepped.word (D.state disk.old) (D.state disk.new)) }
         ensures unwinding { IfOk result (λ stepped. (seed : List ℕ) (state : Flat) → StandsFor self.old seed state →
-            Unwinds step.now stepped.word seed state) }
+            Unwinds W.rules step.now stepped.word seed state) }
         ensures err { OnErr result (Undone self.old self.new out.old.items out.new.items) }
+        ensures disk_err { OnErr result (disk.new ≡ disk.old) }
 
-        // Memory is wanted by a Submit, by the Finish of CRYPT, and for places that are not spare.
-        ensures memory { takes_memory self.old.shared step.now ≡ false →
-            places_for self.old.shared step.now ≤ out.old.spare → IsOk result }
+        // Memory is wanted by a Submit, by the Finish of CRYPT and of RESET, by Boot, and for places that are not spare.
+        ensures memory { takes_memory self.old.kept.shared step.now ≡ false →
+            places_for self.old.kept.shared step.now ≤ out.old.spare → IsOk result }
 
         // A step that was due leaves less to do, and a step draws one id at most.
-        ensures less { OnOk result (is_off self.old.shared.device ≡ false → next_work self.old.shared ≡ Some step.now →
-            work_left self.new.shared.requests < work_left self.old.shared.requests) }
-        ensures ids { OnOk result (length self.new.shared.requests ≤ length self.old.shared.requests + draws step.now) }
+        ensures less { OnOk result (is_off self.old.kept.shared.device ≡ false → next_work self.old.kept.shared ≡ Some step.now →
+            work_left self.new.kept.shared.requests < work_left self.old.kept.shared.requests) }
+        ensures ids { OnOk result (length self.new.kept.shared.requests ≤ length self.old.kept.shared.requests + draws step.now) }
     {
         kept_steps();
         unwinding();
-        no_call_is_quiet();
         due_steps_come_to_an_end();
         digits_fit_their_entry();
         pending_stay_sound();
+        few_words_are_drawn();
         let prepared = self.parts.prepare(without_key(step), out)?;
-        self.parts.perform(prepared, pressed_key(step), out);
-        Ok(Stepped {
-            word: DiskWord::Quiet,
-        })
+        Ok(self.parts.perform(disk, prepared, pressed_key(step), out))
+    }
+
+    /// The bytes of the store, of a device that is ready.
+    pub fn bytes(&self) -> &[u8]
+        requires { is_ready self.now.kept.shared.device ≡ true }
+        ensures { self.now.stored ≡ Some result.now }
+    {
+        self.parts.bytes()
     }
 
     /// The step that is due: Finish of a command in work that is no entry, or Begin where nothing is in work and a request waits.
     pub fn next_work(&self) -> Option<Step>
         ensures due { (seed : List ℕ) (state : Flat) →
             StandsFor self.now seed state → result ≡ next_work state.shared }
-        ensures kept { result ≡ next_work self.now.shared }
+        ensures kept { result ≡ next_work self.now.kept.shared }
         ensures taken { IfSome result (λ step. IsTrue (is_taken_today step)) }
-        ensures on { IfSome result (λ step. is_off self.now.shared.device ≡ false) }
+        ensures on { IfSome result (λ step. is_off self.now.kept.shared.device ≡ false) }
         ensures draws { IfSome result (λ step. draws step ≡ 0) }
     {
         self.parts.next_work()

@@ -1,65 +1,83 @@
 // What the pad holds: what is the same in twins, and the digits.
-ghost use Rattle.std.specs.Prelude.{◌≡◌, ◌<◌, ◌≤◌, ◌+◌, ◌-◌, ◌^◌, [], IsTrue, IfOk, IfSome, IsOk, OnErr, OnOk, None, Some, false, length};
+ghost use Rattle.std.specs.Prelude.{◌≡◌, ◌<◌, ◌≤◌, ◌+◌, ◌-◌, ◌^◌, [], IfOk, IsOk, IsSome, IsTrue, None, Some, false, length};
 ghost use Rattle.std.specs.Option.{option_map};
 ghost use Rattle.entry_core.specs.Presses.{FitEntry};
+ghost use Rattle.flat_machine.specs.DiskFacts.{IsKeptStore, KeepsStore};
 ghost use Rattle.flat_machine.specs.Kept.{FitRunning, kept_ends, kept_next, kept_press_in};
 ghost use Rattle.flat_machine.specs.Machine.{next_work};
-ghost use Rattle.flat_machine.specs.State.{ready_opening, running_entry};
+ghost use Rattle.flat_machine.specs.Power.{word_fate};
+ghost use Rattle.flat_machine.specs.State.{opening, running_entry};
 ghost use Rattle.key_source.specs.declared.Key.{Key};
 ghost use Rattle.pad_machine.specs.Does.{Becomes, Does};
 ghost use Rattle.pad_machine.specs.Memory.{places_for, takes_memory};
-ghost use Rattle.pad_machine.specs.Prepares.{IsPrepared, IsRunning, IsTakenToday, effect_of, places_of, pressed, said_of, with_key};
-ghost use Rattle.pad_machine.specs.Stands.{IsSound, StandsFor, kept_by, shared_of, running_of, set_by, zero_seed};
+ghost use Rattle.pad_machine.specs.Prepares.{IsPlanned, IsPrepared, IsRunning, IsTakenToday, calls_of, deciding, effect_of, is_plain, places_of, pressed, said_of, switch_of, with_key};
+ghost use Rattle.pad_machine.specs.Stands.{DrawnFew, IsSound, StandsFor, kept_by, pad_state, running_of, set_by, shared_of};
 ghost use Rattle.pad_steps.specs.declared.answers.Answer.TheVariants.{Entered};
 ghost use Rattle.pad_steps.specs.declared.answers.Reply.TheVariants.{Ok as ReplyOk};
-ghost use Rattle.pad_steps.specs.declared.commands.EntryKind.TheVariants.{Pin as PinKind};
 ghost use Rattle.pad_steps.specs.declared.steps.DiskWord.TheVariants.{Quiet};
+ghost use Rattle.pad_steps.specs.declared.steps.DiskWord.{DiskWord};
 
 mod finishing;
+mod loading;
 
 use crate::keyless::KeylessStep;
+use crate::pad::Stepped;
 use crate::prepared::Prepared;
 use crate::running_entry::RunningEntry;
 use crate::saying::say;
 use crate::shared::Shared;
+use disk_core::PowerDisk;
 use entry_core::Seen;
+use flat_machine::laws::devices::quiet_steps_leave_the_disk;
 use key_source::Key;
-use pad_steps::{Answer, Completion, Event, Out, Outs, Reply, Shown, Step, Told};
+use pad_steps::{Answer, Completion, DiskWord, Event, Out, Outs, Reply, Shown, Step, Told};
 use pad_words::{Nibbles, NoMemory};
+use pin_blocks::PinWork;
 use pin_buffer::PinBuffer;
 use std::alloc::Global;
 use std::marker::Model;
 
-/// What is the same in twins, the digits of the running entry, and the held PIN.
+/// The seed of the fill words, what is the same in twins, the digits of the running entry, and the held PIN.
 #[derive(Drop)]
-pub struct Parts {
-    shared: Shared,
+pub struct Parts<W> {
+    seed: [u8; 32],
+    shared: Shared<W>,
     digits: Nibbles,
     held: PinBuffer,
 }
 
-impl Model for Parts {
+impl<W> Model for Parts<W> {
     ghost use Rattle.pad_machine.specs.Stands.{Whole};
 
     ghost Value = { Whole };
 
-    ghost view = { λ p. record { common = p.shared; digits = p.digits; held = p.held.digits } };
+    ghost view = { λ p. record { seed = p.seed; common = p.shared; digits = p.digits; held = p.held.digits } };
 }
 
-impl Parts {
-    pub fn new(alloc: Global) -> Result<Parts, NoMemory>
-        ensures { IfOk result (λ parts. StandsFor (kept_by parts) zero_seed ready_opening) }
+impl<W: PinWork + Drop> Parts<W> {
+    pub fn new(alloc: Global, work: W, seed: [u8; 32]) -> Result<Parts<W>, NoMemory>
+        ensures state { IfOk result (λ parts. StandsFor (pad_state parts) seed opening) }
+        ensures store { IfOk result (λ parts. parts.common.store.bytes ≡ None) }
     {
         Ok(Parts {
-            shared: Shared::new(alloc)?,
+            seed,
+            shared: Shared::new(alloc, work)?,
             digits: Nibbles::empty(),
             held: PinBuffer::empty(),
         })
     }
 
+    /// The bytes of the store, while it is settled.
+    pub fn bytes(&self) -> &[u8]
+        requires { IsSome self.now.common.store.bytes }
+        ensures { self.now.common.store.bytes ≡ Some result.now }
+    {
+        self.shared.bytes()
+    }
+
     /// The step that is due.
     pub fn next_work(&self) -> Option<Step>
-        requires { IsSound (shared_of self.now.common) }
+        requires { IsSound W.rules (shared_of self.now.common) }
         ensures { result ≡ next_work (shared_of self.now.common) }
     {
         self.shared.next_work()
@@ -67,7 +85,7 @@ impl Parts {
 
     /// The running entry.
     pub fn running_entry(&self) -> Option<RunningEntry>
-        requires { IsSound (shared_of self.now.common) }
+        requires { IsSound W.rules (shared_of self.now.common) }
         ensures { option_map running_of result ≡ running_entry (shared_of self.now.common) }
     {
         self.shared.running_entry()
@@ -75,15 +93,19 @@ impl Parts {
 
     /// What a step comes to. All that may want memory is done here, and no digit is seen. All is as before, but for places.
     pub fn prepare(&mut self, step: KeylessStep, out: &mut Outs) -> Result<Prepared, NoMemory>
-        requires sound { IsSound (shared_of self.old.common) }
+        requires sound { IsSound W.rules (shared_of self.old.common) }
         requires taken { IsTakenToday step }
         requires ids { length self.old.common.requests < 2 ^ 32 - 2 }
-        ensures kept { kept_by self.new ≡ kept_by self.old }
+        ensures kept { pad_state self.new ≡ pad_state self.old }
         ensures items { out.new.items ≡ out.old.items }
         ensures room { IfOk result (λ prepared. places_of self.new.common prepared ≤ out.new.spare) }
-        ensures fits { IfOk result (λ prepared. IsPrepared self.new.common (length self.new.held) prepared) }
-        ensures does { IfOk result (λ prepared. (key : Key) → effect_of (pressed (with_key step.entry key)) self.new prepared
-            ≡ kept_next (set_by zero_seed) (kept_by self.new) (with_key step.entry key) Quiet) }
+        ensures fits { IfOk result (λ prepared.
+            IsPrepared W.rules self.new.common (length self.new.held) prepared) }
+        ensures does { IfOk result (λ prepared. (key : Key) (word : DiskWord) →
+            effect_of W.rules (pressed (with_key step.entry key)) self.new prepared word
+            ≡ kept_next (set_by W.rules self.new.seed) (kept_by self.new) (with_key step.entry key) word) }
+        ensures planned { IfOk result (λ prepared. (key : Key) →
+            IsPlanned (deciding W.rules) (shared_of self.new.common) prepared (with_key step.entry key)) }
         ensures memory { (key : Key) → takes_memory (shared_of self.old.common) (with_key step.entry key) ≡ false →
             places_for (shared_of self.old.common) (with_key step.entry key) ≤ out.old.spare → IsOk result }
     {
@@ -92,26 +114,49 @@ impl Parts {
     }
 
     /// Does what was prepared, with the key of a press. It takes no memory.
-    pub fn perform(&mut self, prepared: Prepared, key: Option<Key>, out: &mut Outs)
+    pub fn perform<D: PowerDisk>(
+        &mut self,
+        disk: &mut D,
+        prepared: Prepared,
+        key: Option<Key>,
+        out: &mut Outs,
+    ) -> Stepped
         requires room { places_of self.old.common prepared ≤ out.old.spare }
-        requires fits { IsPrepared self.old.common (length self.old.held) prepared }
+        requires fits { IsPrepared W.rules self.old.common (length self.old.held) prepared }
         requires digits { FitRunning (kept_by self.old) }
-        ensures { Becomes self.new out.old out.new (effect_of key self.old prepared) }
+        requires drawn { DrawnFew self.old.common }
+        requires kept { IsKeptStore (shared_of self.old.common) self.old.common.store (D.state disk.old) }
+        ensures becomes { Becomes self.new out.old out.new (effect_of W.rules key self.old prepared result.word) }
+        ensures device { KeepsStore (shared_of self.old.common) (shared_of self.new.common) (switch_of prepared)
+            (calls_of (shared_of self.old.common) prepared) result.word self.new.common.store (D.state disk.old) (D.state disk.new) }
+        ensures fate { result.fate ≡ word_fate (shared_of self.old.common) result.word }
     {
+        quiet_steps_leave_the_disk::<D>();
         match (prepared, key) {
-            (Prepared::Press(current), Some(key)) => self.press(current, key, out),
-            (prepared, _) => self.perform_keyless(prepared, out),
+            (Prepared::Press(current), Some(key)) => {
+                self.press(current, key, out);
+                quiet()
+            }
+            (Prepared::Finish(owner, work, told), _) => self.finish(disk, owner, work, told, out),
+            (Prepared::Reset(owner, kept), _) => self.reset(disk, owner, kept, out),
+            (Prepared::Boot(kept), _) => self.boot(disk, kept, out),
+            (Prepared::Off, _) => self.stop(disk, out),
+            (prepared, _) => {
+                self.perform_keyless(prepared, out);
+                quiet()
+            }
         }
     }
 
-    // Does what was prepared, where it is no press.
+    // Does what was prepared, where it is no press, and no call of the disk.
     fn perform_keyless(&mut self, prepared: Prepared, out: &mut Outs)
         requires room { places_of self.old.common prepared ≤ out.old.spare }
-        requires fits { IsPrepared self.old.common (length self.old.held) prepared }
-        ensures { Does self.old self.new out.old out.new (said_of prepared) }
+        requires fits { IsPrepared W.rules self.old.common (length self.old.held) prepared }
+        requires plain { IsTrue (is_plain prepared) }
+        ensures does { Does self.old self.new out.old out.new (λ shared held. said_of (set_by W.rules self.old.seed) prepared shared held Quiet) }
+        ensures store { self.new.common.store ≡ self.old.common.store }
     {
         match prepared {
-            Prepared::Nothing | Prepared::Press(_) => {}
             Prepared::Say(item) => say(out, item),
             Prepared::Open(session) => {
                 self.shared.open(session);
@@ -136,7 +181,7 @@ impl Parts {
                 say(out, Out::Ended(owner.session, owner.id, told));
             }
             Prepared::StartEntry(owner, kind) => self.start_entry(owner, kind, out),
-            Prepared::Finish(owner, work, told) => self.finish(owner, work, told, out),
+            _ => {}
         }
     }
 
@@ -145,7 +190,8 @@ impl Parts {
         requires room { 2 ≤ out.old.spare }
         requires runs { IsRunning self.old.common current }
         requires digits { FitEntry current.entry self.old.digits }
-        ensures { Becomes self.new out.old out.new (kept_press_in (set_by zero_seed) (kept_by self.old) (Some (running_of current)) key) }
+        ensures store { self.new.common.store ≡ self.old.common.store }
+        ensures becomes { Becomes self.new out.old out.new (kept_press_in (set_by W.rules self.old.seed) (kept_by self.old) (Some (running_of current)) key) }
     {
         let seen = current.entry.seen(self.digits.items().len(), key);
         current.entry.enter(&mut self.digits, key);
@@ -169,7 +215,8 @@ impl Parts {
         requires room { 2 ≤ out.old.spare }
         requires runs { IsRunning self.old.common current }
         requires digits { FitEntry current.entry self.old.digits }
-        ensures { Becomes self.new out.old out.new (kept_ends (set_by zero_seed) (kept_by self.old) (running_of current) shown completion self.old.digits) }
+        ensures store { self.new.common.store ≡ self.old.common.store }
+        ensures becomes { Becomes self.new out.old out.new (kept_ends (set_by W.rules self.old.seed) (kept_by self.old) (running_of current) shown completion self.old.digits) }
     {
         self.shared
             .send(current.owner.session, Event::Key(shown), out);
@@ -186,4 +233,15 @@ fn entered(count: u8, completion: Completion) -> Reply
     ensures { result ≡ ReplyOk (Entered count completion) }
 {
     Reply::Ok(Answer::Entered(count, completion))
+}
+
+// Nothing was asked of the disk.
+fn quiet() -> Stepped
+    ensures word { result.word ≡ Quiet }
+    ensures fate { result.fate ≡ None }
+{
+    Stepped {
+        word: DiskWord::Quiet,
+        fate: None,
+    }
 }

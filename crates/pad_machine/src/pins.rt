@@ -7,7 +7,7 @@ ghost use Rattle.pad_steps.specs.Formed.{is_extra, is_pin_request};
 use crate::refusals::{denied, refused};
 use flat_machine::types::Work;
 use key_attributes::KeyValue;
-use key_table::KeyTable;
+use key_table::StoredKeys;
 use pad_steps::{Answer, PinRequest, Refusal};
 use pad_words::NoMemory;
 use pin_blocks::{PinAnswer, PinFault, PinWork};
@@ -17,13 +17,13 @@ use std::alloc::Global;
 pub fn pin_work<W: PinWork>(
     alloc: Global,
     work: &W,
-    keys: &KeyTable,
+    keys: &StoredKeys,
     count: usize,
     request: &PinRequest,
 ) -> Result<Work, NoMemory>
     requires formed { IsTrue (is_pin_request request.now) }
     requires few { count ≤ 16 }
-    ensures work { IfOk result (λ found. found ≡ pin_work W.rules keys.now count request.now) }
+    ensures work { IfOk result (λ found. found ≡ pin_work W.rules keys.now.rows count request.now) }
     ensures memory { is_extra request.now ≡ false → IsOk result }
 {
     let wants = work.wants(request);

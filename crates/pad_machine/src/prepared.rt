@@ -2,10 +2,11 @@
 
 use crate::running_entry::RunningEntry;
 use flat_machine::types::{Owner, Work};
+use key_attributes::KeyRow;
 use pad_steps::{Answer, Classes, Command, EntryKind, Out, Refusal};
 use pad_words::Session;
 
-/// What a step comes to, with all memory that it takes. It holds no key.
+/// What a step comes to, with all memory that it takes. It holds no key of a press.
 #[derive(Drop)]
 pub enum Prepared {
     /// Nothing happens.
@@ -26,6 +27,13 @@ pub enum Prepared {
     StartEntry(Owner, EntryKind),
     /// The command in work comes to this, and the answer in it stands here once more, to be told.
     Finish(Owner, Work, Option<Answer>),
+    /// RESET loads the store. The rows that are kept stand here once more, with room for those that are loaded.
+    Reset(Owner, Vec<(u8, KeyRow)>),
     /// A key is pressed in this entry.
     Press(RunningEntry),
+    /// The disk is stopped, and the device goes off.
+    Off,
+    /// The disk is started, and the store is loaded. The rows that are kept stand here once more, with room for those that
+    /// are loaded.
+    Boot(Vec<(u8, KeyRow)>),
 }

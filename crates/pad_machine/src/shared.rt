@@ -1,100 +1,107 @@
 // What is the same in twins: it holds no digit and sees no key of a press. All that may want memory is done here.
-ghost use Rattle.std.specs.Prelude.{ℕ, ◌≡◌, ◌-◌, ◌<◌, ◌≤◌, ◌+◌, ◌^◌, ◌++◌, ◌∷◌, [], IsTrue, IfOk, IfSome, IsOk, OnErr, OnOk, None, Option, Some, false, if◌then◌else◌, length, replicate};
+ghost use Rattle.std.specs.Prelude.{ℕ, ◌≡◌, ◌-◌, ◌<◌, ◌≤◌, ◌+◌, ◌^◌, IsTrue, IfOk, IfSome, IsOk, OnErr, OnOk, None, false, length, max};
 ghost use Rattle.std.specs.Option.{option_copied, option_map};
-ghost use Rattle.device_lock.specs.LockLine.{holder_of};
-ghost use Rattle.entry_core.specs.Entries.{entry_of, is_key_part};
 ghost use Rattle.flat_machine.specs.Commands.{work_of};
-ghost use Rattle.flat_machine.specs.Machine.{next_work};
-ghost use Rattle.flat_machine.specs.Sessions.{execute_event};
-ghost use Rattle.flat_machine.specs.State.{accuses, owner_of, ready_opening, running_entry};
-ghost use Rattle.key_table.specs.KeyRows.{put_row, slot_for, with_row};
-ghost use Rattle.pad_machine.specs.Memory.{places_for, takes_memory};
-ghost use Rattle.flat_machine.specs.WorkFacts.{is_crypt};
-ghost use Rattle.pad_machine.specs.Prepares.{AlwaysComesTo, ComesTo, IsInWork, IsNext, IsPrepared, IsReady, IsStep, IsTakenToday, IsUnready, MaySubmit, Prepares, next_owner, session_refusal, told_of, with_key};
-ghost use Rattle.pad_machine.specs.Stands.{IsSound, pad_rules, is_admitted, shared_of, running_of, set_by, zero_seed};
-ghost use Rattle.pad_steps.specs.Formed.{is_well_formed};
-ghost use Rattle.pad_steps.specs.Today.{is_command_today, is_taken_today};
-ghost use Rattle.pad_steps.specs.declared.answers.Out.TheVariants.{Ended as OutEnded};
-ghost use Rattle.pad_steps.specs.declared.commands.EntryKind.TheVariants.{Pin as PinKind};
-ghost use Rattle.pad_steps.specs.declared.steps.Step.{Step};
-ghost use Rattle.pad_steps.specs.declared.steps.Step.TheVariants.{Finish as FinishStep, Press};
-ghost use Rattle.pad_steps.specs.declared.steps.DiskWord.TheVariants.{Quiet};
-ghost use Rattle.key_source.specs.declared.Key.{Key};
-ghost use Rattle.flat_machine.specs.EntrySteps.{next_begin};
+ghost use Rattle.entry_core.specs.Entries.{entry_refusal};
+ghost use Rattle.flat_machine.specs.EntrySteps.{first_of, next_begin};
 ghost use Rattle.flat_machine.specs.FinishSteps.{next_finish};
+ghost use Rattle.flat_machine.specs.Machine.{next_boot, next_off, next_work};
 ghost use Rattle.flat_machine.specs.RequestSteps.{next_submit};
 ghost use Rattle.flat_machine.specs.SessionSteps.{next_listen, next_open};
-ghost use Rattle.request_queue.specs.Requests.{begun, eligible, finished, pending_by_id, refused_at_begin, request_command, submitted, request_in_work};
-ghost use Rattle.session_book.specs.Rising.{opened};
-ghost use Rattle.session_book.specs.Sessions.{is_open, with_classes, with_session};
-ghost use Rattle.pad_steps.specs.declared.answers.Reply.TheVariants.{No as ReplyNo};
+ghost use Rattle.flat_machine.specs.State.{device_refusal, opening, owner_of, running_entry};
+ghost use Rattle.flat_machine.specs.WorkFacts.{is_crypt};
+ghost use Rattle.key_source.specs.declared.Key.{Key};
+ghost use Rattle.pad_machine.specs.Memory.{pending_in_all, places_for, takes_memory};
+ghost use Rattle.pad_machine.specs.Prepares.{AlwaysComesTo, ComesTo, IsCopy, IsInWork, IsNext, IsPlanned, IsReady, IsStep, IsTakenToday, IsUnready, Prepares, deciding, next_owner, ready_work, session_refusal, told_of, with_key};
+ghost use Rattle.pad_machine.specs.Stands.{IsSound, is_admitted, running_of, set_by, shared_of};
+ghost use Rattle.pad_steps.specs.Today.{is_command_today};
+ghost use Rattle.pad_steps.specs.declared.commands.EntryKind.TheVariants.{Pin as PinKind};
+ghost use Rattle.pad_steps.specs.declared.steps.Step.TheVariants.{Begin as BeginStep, Boot as BootStep, Finish as FinishStep, Listen as ListenStep, Off as OffStep, Open as OpenStep, Press, Submit as SubmitStep};
+ghost use Rattle.request_queue.specs.Requests.{pending_by_id, request_command, request_in_work};
+
+mod changing;
+mod powering;
 
 use crate::crypts::crypt_work;
+use crate::doubt::Doubt;
 use crate::imports::import_work;
 use crate::keyless::KeylessStep;
 use crate::pins::pin_work;
 use crate::prepared::Prepared;
 use crate::refusals::refused;
 use crate::running_entry::RunningEntry;
-use crate::saying::{announce, say, send};
 use crate::submits::command_refusal;
 use device_lock::Lock;
 use entry_core::Entry;
 use flat_machine::laws::kept::pending_commands_pass;
 use flat_machine::laws::works::works_of_commands;
-use flat_machine::types::{Owner, Work};
+use flat_machine::types::{Device, Owner, Work};
 use key_attributes::KeyRow;
-use key_table::KeyTable;
-use local_check::StandardWork;
-use pad_steps::{
-    Answer, Classes, Command, EntryKind, Event, Out, Outs, Refusal, Reply, Step, Told,
-};
-use pad_words::{KeyName, NoMemory, Session};
+use key_table::{StoredKeys, copy_rows};
+use pad_steps::{Answer, Classes, Command, Out, Outs, Refusal, Reply, Step, Told};
+use pad_words::{NoMemory, Session};
+use pin_blocks::PinWork;
 use request_queue::Queue;
-use request_queue::laws::{in_work_by_id, next_by_id};
+use request_queue::laws::pending_or_ended;
 use secure_entry::PartBuffer;
 use session_book::Book;
 use std::alloc::Global;
 use std::marker::Model;
 
-/// The keys, the open sessions, the line for the lock, the requests, and the part buffer.
+/// The PIN work; the device, and the keys over their store with the slot in doubt; the open sessions, the line for the lock,
+/// the requests and the clock; the part buffer, whether a used PIN is maintained, and how many fill words were drawn.
 #[derive(Drop)]
-pub struct Shared {
+pub struct Shared<W> {
     alloc: Global,
-    keys: KeyTable,
+    work: W,
+    device: Device,
+    keys: StoredKeys,
+    doubt: Option<Doubt>,
+    is_loaded: bool,
     sessions: Book,
     line: Lock,
     requests: Queue<Command, Reply>,
+    clock: u64,
     part: PartBuffer,
+    is_maintained: bool,
+    drawn: u64,
 }
 
-impl Model for Shared {
+impl<W> Model for Shared<W> {
     ghost use Rattle.pad_machine.specs.Stands.{Common};
 
     ghost Value = { Common };
 
-    ghost view = { λ s. record { keys = s.keys; sessions = s.sessions; line = s.line; requests = s.requests.rows; part = s.part; room = s.requests.spare } };
+    ghost view = { λ s. record { device = s.device; store = s.keys; doubt = s.doubt; loaded = s.is_loaded; sessions = s.sessions; line = s.line; requests = s.requests.rows; clock = s.clock; part = s.part; maintain = s.is_maintained; drawn = s.drawn; room = s.requests.spare } };
 }
 
-impl Shared {
-    /// No key, and nothing open or asked. It takes the memory for all keys.
-    pub fn new(alloc: Global) -> Result<Shared, NoMemory>
-        ensures { IfOk result (λ shared. shared_of shared ≡ ready_opening.shared) }
+impl<W: PinWork + Drop> Shared<W> {
+    /// The device is off; no key is known, and nothing is open or asked. It takes the memory for all keys.
+    pub fn new(alloc: Global, work: W) -> Result<Shared<W>, NoMemory>
+        ensures state { IfOk result (λ shared. shared_of shared ≡ opening.shared) }
+        ensures store { IfOk result (λ shared. shared.store.bytes ≡ None) }
     {
         Ok(Shared {
             alloc,
-            keys: KeyTable::new(alloc)?,
+            work,
+            device: Device::Off,
+            keys: StoredKeys::new(alloc)?,
+            doubt: None,
+            is_loaded: false,
             sessions: Book::empty(),
             line: Lock::free(),
             requests: Queue::new(alloc),
+            clock: 0,
             part: PartBuffer::empty(),
+            is_maintained: false,
+            drawn: 0,
         })
     }
 
     // Whose the request in work is.
     fn in_work(&self) -> Option<Owner>
         ensures owner { result ≡ option_map owner_of (request_in_work self.now.requests) }
-        ensures at { IfSome result (λ owner. IsInWork self.now owner.id) }
+        ensures at { IfSome result (λ owner. IsInWork self.now.requests owner.id) }
     {
         let id = self.requests.in_work()?;
         match self.requests.owner(id) {
@@ -105,9 +112,9 @@ impl Shared {
 
     // The command of a pending request.
     fn command_of(&self, id: u32) -> Option<&Command>
-        requires sound { IsSound (shared_of self.now) }
+        requires sound { IsSound W.rules (shared_of self.now) }
         ensures command { option_copied result ≡ option_map request_command (pending_by_id id self.now.requests) }
-        ensures admitted { IfSome result (λ command. IsTrue (is_admitted command.now)) }
+        ensures admitted { IfSome result (λ command. IsTrue (is_admitted W.rules command.now)) }
     {
         pending_commands_pass();
         self.requests.command(id)
@@ -116,9 +123,9 @@ impl Shared {
     /// The running entry.
     #[tactic(auto, using(crate::proofs::AdmittedLemmas::admitted_size, crate::proofs::AdmittedLemmas::admitted_pin))]
     pub fn running_entry(&self) -> Option<RunningEntry>
-        requires { IsSound (shared_of self.now) }
+        requires { IsSound W.rules (shared_of self.now) }
         ensures entry { option_map running_of result ≡ running_entry (shared_of self.now) }
-        ensures at { IfSome result (λ current. IsInWork self.now current.owner.id) }
+        ensures at { IfSome result (λ current. IsInWork self.now.requests current.owner.id) }
         ensures pin { IfSome result (λ current. current.entry.kind ≡ PinKind) }
     {
         let owner = self.in_work()?;
@@ -129,7 +136,7 @@ impl Shared {
     /// The step that is due.
     #[tactic(auto, using(crate::proofs::AdmittedLemmas::admitted_size))]
     pub fn next_work(&self) -> Option<Step>
-        requires { IsSound (shared_of self.now) }
+        requires { IsSound W.rules (shared_of self.now) }
         ensures { result ≡ next_work (shared_of self.now) }
     {
         let Some(owner) = self.in_work() else {
@@ -151,13 +158,15 @@ impl Shared {
         held: usize,
         out: &mut Outs,
     ) -> Result<Prepared, NoMemory>
-        requires sound { IsSound (shared_of self.old) }
+        requires sound { IsSound W.rules (shared_of self.old) }
         requires taken { IsTakenToday step }
         requires ids { length self.old.requests < 2 ^ 32 - 2 }
         requires few { held ≤ 16 }
-        ensures ready { IfOk result (λ prepared. IsReady self.old self.new held out.old out.new prepared) }
+        ensures ready { IfOk result (λ prepared. IsReady W.rules self.old self.new held out.old out.new prepared) }
         ensures does { IfOk result (λ prepared.
-            (key : Key) → IsStep self.new held prepared (with_key step.entry key)) }
+            (key : Key) → IsStep W.rules self.new held prepared (with_key step.entry key)) }
+        ensures planned { IfOk result (λ prepared. (key : Key) →
+            IsPlanned (deciding W.rules) (shared_of self.new) prepared (with_key step.entry key)) }
         ensures err { OnErr result (IsUnready self.old self.new out.old out.new) }
         ensures memory { (key : Key) → takes_memory (shared_of self.old) (with_key step.entry key) ≡ false →
             places_for (shared_of self.old) (with_key step.entry key) ≤ out.old.spare → IsOk result }
@@ -171,15 +180,19 @@ impl Shared {
             KeylessStep::Begin => self.prepare_begin(out),
             KeylessStep::Finish => self.prepare_finish(held, out),
             KeylessStep::Press => self.prepare_press(out),
+            KeylessStep::Off => self.prepare_off(out),
+            KeylessStep::Boot => self.prepare_boot(out),
         }
     }
 
     // What a press comes to.
     fn prepare_press(&self, out: &mut Outs) -> Result<Prepared, NoMemory>
-        requires { IsSound (shared_of self.now) }
-        ensures ready { Prepares self.now self.now out.old out.new result }
+        requires { IsSound W.rules (shared_of self.now) }
+        ensures ready { Prepares W.rules self.now self.now out.old out.new result }
         ensures press { IfOk result (λ prepared.
-            (held : ℕ) (key : Key) → IsStep self.now held prepared (Press key)) }
+            (held : ℕ) (key : Key) → IsStep W.rules self.now held prepared (Press key)) }
+        ensures planned { IfOk result (λ prepared. (key : Key) →
+            IsPlanned (deciding W.rules) (shared_of self.now) prepared (Press key)) }
         ensures memory { 2 ≤ out.old.spare → IsOk result }
     {
         out.reserve(2)?;
@@ -189,11 +202,62 @@ impl Shared {
         }
     }
 
+    // How many requests are pending.
+    fn pending_in_all(&self) -> usize
+        ensures { result ≡ pending_in_all self.now.requests }
+    {
+        pending_or_ended::<Command, Reply>();
+        (self.requests.last_id() - self.requests.ended()) as usize
+    }
+
+    // The rows that are kept, with room for all that a store has.
+    fn copy_of_rows(&self) -> Result<Vec<(u8, KeyRow)>, NoMemory>
+        ensures { IfOk result (λ kept. IsCopy self.now.store.rows kept) }
+    {
+        let mut kept = match Vec::with_capacity(self.alloc, 65) {
+            Ok(kept) => kept,
+            Err(_) => return Err(NoMemory),
+        };
+        copy_rows(self.keys.rows(), &mut kept);
+        Ok(kept)
+    }
+
+    // What Off comes to.
+    fn prepare_off(&self, out: &mut Outs) -> Result<Prepared, NoMemory>
+        ensures ready { Prepares W.rules self.now self.now out.old out.new result }
+        ensures does { IfOk result (AlwaysComesTo W.rules self.now (λ shared word. next_off shared)) }
+        ensures planned { IfOk result (λ prepared.
+            IsPlanned (deciding W.rules) (shared_of self.now) prepared OffStep) }
+        ensures memory { pending_in_all self.now.requests ≤ out.old.spare → IsOk result }
+    {
+        out.reserve(self.pending_in_all())?;
+        if self.device == Device::Off {
+            return Ok(Prepared::Nothing);
+        }
+        Ok(Prepared::Off)
+    }
+
+    // What Boot comes to.
+    fn prepare_boot(&self, out: &mut Outs) -> Result<Prepared, NoMemory>
+        ensures ready { Prepares W.rules self.now self.now out.old out.new result }
+        ensures does { IfOk result (AlwaysComesTo W.rules self.now next_boot) }
+        ensures planned { IfOk result (λ prepared.
+            IsPlanned (deciding W.rules) (shared_of self.now) prepared BootStep) }
+    {
+        out.reserve(self.pending_in_all())?;
+        if self.device != Device::Off {
+            return Ok(Prepared::Nothing);
+        }
+        Ok(Prepared::Boot(self.copy_of_rows()?))
+    }
+
     // What Open comes to.
     fn prepare_open(&self, session: Session, out: &mut Outs) -> Result<Prepared, NoMemory>
         requires { length self.now.requests < 2 ^ 32 - 2 }
-        ensures ready { Prepares self.now self.now out.old out.new result }
-        ensures does { IfOk result (AlwaysComesTo self.now (λ shared. next_open shared session)) }
+        ensures ready { Prepares W.rules self.now self.now out.old out.new result }
+        ensures does { IfOk result (AlwaysComesTo W.rules self.now (λ shared word. next_open shared session)) }
+        ensures planned { IfOk result (λ prepared.
+            IsPlanned (deciding W.rules) (shared_of self.now) prepared (OpenStep session)) }
         ensures memory { 1 ≤ out.old.spare → IsOk result }
     {
         out.reserve(1)?;
@@ -210,8 +274,10 @@ impl Shared {
         classes: Classes,
         out: &mut Outs,
     ) -> Result<Prepared, NoMemory>
-        ensures ready { Prepares self.now self.now out.old out.new result }
-        ensures does { IfOk result (AlwaysComesTo self.now (λ shared. next_listen shared session classes)) }
+        ensures ready { Prepares W.rules self.now self.now out.old out.new result }
+        ensures does { IfOk result (AlwaysComesTo W.rules self.now (λ shared word. next_listen shared session classes)) }
+        ensures planned { IfOk result (λ prepared.
+            IsPlanned (deciding W.rules) (shared_of self.now) prepared (ListenStep session classes)) }
         ensures memory { 1 ≤ out.old.spare → IsOk result }
     {
         out.reserve(1)?;
@@ -228,6 +294,9 @@ impl Shared {
     {
         if !self.sessions.is_open(session) {
             return Some(Refusal::NoSession);
+        }
+        if self.device == Device::Off {
+            return Some(Refusal::ConnectionLost);
         }
         if let Some(holder) = self.line.locked_out(session) {
             return Some(Refusal::Locked(holder));
@@ -248,15 +317,17 @@ impl Shared {
     ) -> Result<Prepared, NoMemory>
         requires taken { IsTrue (is_command_today command.now) }
         requires ids { length self.old.requests < 2 ^ 32 - 2 }
-        ensures ready { Prepares self.old self.new out.old out.new result }
-        ensures does { IfOk result (AlwaysComesTo self.new (λ shared.
-            next_submit pad_rules shared session limit command.now)) }
+        ensures ready { Prepares W.rules self.old self.new out.old out.new result }
+        ensures does { IfOk result (AlwaysComesTo W.rules self.new (λ shared word.
+            next_submit W.rules shared session limit command.now)) }
+        ensures planned { IfOk result (λ prepared.
+            IsPlanned (deciding W.rules) (shared_of self.new) prepared (SubmitStep session limit command.now)) }
     {
         out.reserve(1)?;
         if let Some(refusal) = self.session_refusal(session) {
             return Ok(Prepared::Say(Out::Refused(session, refusal)));
         }
-        if let Some(refusal) = command_refusal(command) {
+        if let Some(refusal) = command_refusal(&self.work, command) {
             return Ok(Prepared::Say(Out::Refused(session, refusal)));
         }
         self.requests.reserve()?;
@@ -269,7 +340,7 @@ impl Shared {
         ensures owner { result ≡ next_owner (shared_of self.now) }
         ensures next { IfSome result (λ owner. IsNext self.now owner.id) }
     {
-        if self.requests.in_work().is_some() {
+        if self.device == Device::Off || self.requests.in_work().is_some() {
             return None;
         }
         let id = self.requests.next_for(self.line.holder())?;
@@ -281,9 +352,11 @@ impl Shared {
 
     // What Begin comes to.
     fn prepare_begin(&self, out: &mut Outs) -> Result<Prepared, NoMemory>
-        requires { IsSound (shared_of self.now) }
-        ensures ready { Prepares self.now self.now out.old out.new result }
-        ensures does { IfOk result (AlwaysComesTo self.now next_begin) }
+        requires { IsSound W.rules (shared_of self.now) }
+        ensures ready { Prepares W.rules self.now self.now out.old out.new result }
+        ensures does { IfOk result (AlwaysComesTo W.rules self.now (λ shared word. next_begin shared)) }
+        ensures planned { IfOk result (λ prepared.
+            IsPlanned (deciding W.rules) (shared_of self.now) prepared BeginStep) }
         ensures memory { 1 ≤ out.old.spare → IsOk result }
     {
         out.reserve(1)?;
@@ -296,164 +369,105 @@ impl Shared {
         let Some(entry) = Entry::of(command) else {
             return Ok(Prepared::Begin(owner.id));
         };
-        match entry.refusal() {
-            Some(fault) => Ok(Prepared::RefuseEntry(owner, fault.refusal())),
+        match self.entry_refusal(&entry) {
+            Some(refusal) => Ok(Prepared::RefuseEntry(owner, refusal)),
             None => Ok(Prepared::StartEntry(owner, entry.kind())),
         }
     }
 
     // What Finish comes to, at this number of held digits.
     fn prepare_finish(&self, held: usize, out: &mut Outs) -> Result<Prepared, NoMemory>
-        requires sound { IsSound (shared_of self.now) }
+        requires sound { IsSound W.rules (shared_of self.now) }
         requires few { held ≤ 16 }
-        ensures ready { IfOk result (λ prepared. IsReady self.now self.now held out.old out.new prepared) }
+        ensures ready { IfOk result (λ prepared. IsReady W.rules self.now self.now held out.old out.new prepared) }
         ensures does { IfOk result (λ prepared.
-            ComesTo self.now held prepared (λ shared digits. next_finish (set_by zero_seed) shared digits Quiet)) }
+            ComesTo W.rules self.now held prepared (λ seed shared digits word.
+            next_finish (set_by W.rules seed) shared digits word)) }
+        ensures planned { IfOk result (λ prepared.
+            IsPlanned (deciding W.rules) (shared_of self.now) prepared FinishStep) }
         ensures err { OnErr result (IsUnready self.now self.now out.old out.new) }
         ensures memory { takes_memory (shared_of self.now) FinishStep ≡ false →
-            length self.now.sessions + 1 ≤ out.old.spare → IsOk result }
+            places_for (shared_of self.now) FinishStep ≤ out.old.spare → IsOk result }
     {
         works_of_commands();
-        out.reserve(self.sessions.len() + 1)?;
+        out.reserve((self.sessions.len() + 1).max(self.pending_in_all()))?;
         let Some(owner) = self.in_work() else {
             return Ok(Prepared::Nothing);
         };
         let Some(command) = self.command_of(owner.id) else {
             return Ok(Prepared::Nothing);
         };
+        if matches!(command, Command::Reset) {
+            return Ok(Prepared::Reset(owner, self.copy_of_rows()?));
+        }
         let work = self.decide(held, command)?;
         let told = told(self.alloc, &work)?;
         Ok(Prepared::Finish(owner, work, told))
     }
 
+    // Why the device refuses a command that needs its keys: it is stopped or bad.
+    fn device_refusal(&self) -> Option<Refusal>
+        ensures { result ≡ device_refusal self.now.device }
+    {
+        match self.device {
+            Device::Off | Device::Ready => None,
+            Device::Stopped => Some(Refusal::HardwareError),
+            Device::Bad(slot) => Some(Refusal::BadStore(slot)),
+        }
+    }
+
+    // Why an entry is refused as it is taken: by the device, or by its rules.
+    fn entry_refusal(&self, entry: &Entry) -> Option<Refusal>
+        ensures { result ≡ first_of (device_refusal self.now.device) (entry_refusal entry.now) }
+    {
+        match self.device_refusal() {
+            Some(refusal) => Some(refusal),
+            None => entry.refusal().map(|fault| fault.refusal()),
+        }
+    }
+
     // What a command comes to now, at this number of held digits.
     fn decide(&self, held: usize, command: &Command) -> Result<Work, NoMemory>
-        requires admitted { IsTrue (is_admitted command.now) }
+        requires admitted { IsTrue (is_admitted W.rules command.now) }
         requires few { held ≤ 16 }
         ensures work { IfOk result (λ work.
-            work ≡ work_of (set_by zero_seed) (shared_of self.now) held command.now) }
+            work ≡ work_of (deciding W.rules) (shared_of self.now) held command.now) }
         ensures memory { is_crypt command.now ≡ false → IsOk result }
     {
         match command {
             // An entry ends by a key.
-            Command::GetPin(_) => Ok(Work::Waits),
-            Command::Pin(request) => pin_work(self.alloc, &StandardWork, &self.keys, held, request),
+            Command::GetPin(_) | Command::GetData(_) | Command::SecureKeyEntry(_) => Ok(
+                Work::Waits,
+            ),
+            Command::Reset => Ok(Work::Load),
+            Command::RsaImport => Ok(refused(Refusal::UnsuppCommand)),
+            _ => match self.device_refusal() {
+                Some(refusal) => Ok(refused(refusal)),
+                None => self.decide_ready(held, command),
+            },
+        }
+    }
+
+    // What a command comes to on a device that does not refuse it.
+    fn decide_ready(&self, held: usize, command: &Command) -> Result<Work, NoMemory>
+        requires admitted { IsTrue (is_admitted W.rules command.now) }
+        requires few { held ≤ 16 }
+        requires device { device_refusal self.now.device ≡ None }
+        ensures work { IfOk result (λ work.
+            work ≡ ready_work (deciding W.rules) (shared_of self.now) held command.now) }
+        ensures memory { is_crypt command.now ≡ false → IsOk result }
+    {
+        match command {
+            Command::MaintainPin(on) => Ok(Work::Maintain(*on)),
+            Command::Pin(request) => pin_work(self.alloc, &self.work, &self.keys, held, request),
             Command::Crypt(request) => crypt_work(self.alloc, &self.keys, request),
             Command::ImportKey(request) => Ok(import_work(&self.keys, &self.part, request)),
             Command::DeleteKey(name) => match self.keys.slot_of(name) {
                 Some(slot) => Ok(Work::Erase(slot)),
                 None => Ok(refused(Refusal::KeyNotFound)),
             },
-            // No line asks for another command.
-            _ => unreachable!(),
-        }
-    }
-
-    /// The session is opened. It listens to nothing, and sees no request that was drawn before.
-    pub fn open(&mut self, session: Session)
-        requires closed { is_open session self.old.sessions ≡ false }
-        ensures { shared_of self.new
-            ≡ record (shared_of self.old) { sessions = with_session (opened session (length self.old.requests)) self.old.sessions } }
-    {
-        let _ = self.sessions.enter(session, self.requests.last_id());
-    }
-
-    /// The session's request waits, and this is its id.
-    pub fn submit(&mut self, session: Session, limit: u32, command: Command) -> u32
-        requires { MaySubmit self.old session }
-        ensures id { result ≡ length self.old.requests + 1 }
-        ensures state { shared_of self.new
-            ≡ record (shared_of self.old) { requests = submitted session 0 limit command self.old.requests } }
-    {
-        self.requests.submit_reserved(session, 0, limit, command)
-    }
-
-    /// The session hears these classes.
-    pub fn listen(&mut self, session: Session, classes: Classes)
-        ensures { shared_of self.new
-            ≡ record (shared_of self.old) { sessions = with_classes session classes self.old.sessions } }
-    {
-        let _ = self.sessions.listen(session, classes);
-    }
-
-    /// The next request comes into work.
-    pub fn begin(&mut self, id: u32)
-        requires { IsNext self.old id }
-        ensures { shared_of self.new
-            ≡ record (shared_of self.old) { requests = begun (holder_of self.old.line) self.old.requests } }
-    {
-        next_by_id::<Command, Reply>();
-        self.requests.begin(id);
-    }
-
-    /// The next request ends with this refusal as it is taken.
-    pub fn refuse_next(&mut self, id: u32, refusal: Refusal)
-        requires { IsNext self.old id }
-        ensures { shared_of self.new
-            ≡ record (shared_of self.old) { requests = refused_at_begin (ReplyNo refusal) (holder_of self.old.line) self.old.requests } }
-    {
-        next_by_id::<Command, Reply>();
-        self.requests.finish(id, Reply::No(refusal));
-    }
-
-    /// Sends an event of an entry to its session, if it listens.
-    pub fn send(&self, session: Session, event: Event, out: &mut Outs)
-        requires { 0 < out.old.spare }
-        ensures items { out.new.items ≡ out.old.items ++ execute_event self.now.sessions session event }
-        ensures spare { out.old.spare ≤ out.new.spare + 1 }
-    {
-        send(&self.sessions, session, event, out);
-    }
-
-    /// The row is kept in the slot of its name. An import from the part buffer leaves it empty.
-    pub fn keep(&mut self, slot: u8, row: &KeyRow, from_part: bool)
-        requires { slot_for row.now.name self.old.keys ≡ Some slot }
-        ensures { shared_of self.new
-            ≡ record (shared_of self.old) { keys = with_row slot row.now self.old.keys; part = if from_part then [] else self.old.part } }
-    {
-        self.keys.keep(slot, row);
-        if from_part {
-            self.part.clear();
-        }
-    }
-
-    /// The part buffer is emptied.
-    pub fn clear_part(&mut self)
-        ensures { shared_of self.new ≡ record (shared_of self.old) { part = [] } }
-    {
-        self.part.clear();
-    }
-
-    /// The slot is emptied.
-    pub fn erase(&mut self, slot: u8)
-        ensures { shared_of self.new ≡ record (shared_of self.old) { keys = put_row slot None self.old.keys } }
-    {
-        self.keys.erase(slot);
-    }
-
-    /// The request in work ends with this reply, which is told.
-    pub fn end(&mut self, owner: Owner, reply: Reply, told: Reply, out: &mut Outs)
-        requires room { 0 < out.old.spare }
-        requires at { IsInWork self.old owner.id }
-        requires same { told ≡ reply }
-        ensures state { shared_of self.new
-            ≡ record (shared_of self.old) { requests = finished reply self.old.requests } }
-        ensures items { out.new.items ≡ out.old.items ++ OutEnded owner.session owner.id reply ∷ [] }
-        ensures spare { out.old.spare ≤ out.new.spare + 1 }
-    {
-        in_work_by_id::<Command, Reply>();
-        self.requests.finish(owner.id, reply);
-        say(out, Out::Ended(owner.session, owner.id, told));
-    }
-
-    /// Service listeners hear of the key that a refusal accuses.
-    pub fn accuse(&self, refusal: Refusal, accused: Option<KeyName>, out: &mut Outs)
-        requires { length self.now.sessions ≤ out.old.spare }
-        ensures { out.new.items ≡ out.old.items ++ accuses (shared_of self.now) accused refusal }
-    {
-        if let Some(name) = accused {
-            let event = Event::IllegalKeyAccess(name, refusal);
-            announce(&self.sessions, &event, out);
+            Command::Init => Ok(Work::EraseAll),
+            _ => Ok(Work::Waits),
         }
     }
 }

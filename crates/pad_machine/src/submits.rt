@@ -1,28 +1,47 @@
 // Why a command is refused as it is submitted.
 ghost use Rattle.std.specs.Prelude.{◌≡◌, IsTrue, Some, if◌then◌else◌};
 ghost use Rattle.flat_machine.specs.RequestSteps.{command_refusal, crypt_invalid, import_invalid, invalid_if, is_cfb};
-ghost use Rattle.pad_machine.specs.Stands.{pad_rules};
+ghost use Rattle.flat_machine.specs.PinCommands.{admit_refusal};
+ghost use Rattle.pad_steps.specs.Formed.{is_pin_request};
+ghost use Rattle.std.specs.Option.{option_map};
 ghost use Rattle.pad_steps.specs.Today.{is_command_today};
 ghost use Rattle.pad_steps.specs.declared.answers.Refusal.TheVariants.{ModeNotSupported};
 
 use key_attributes::Uses;
-use pad_steps::{Algorithm, Command, CryptRequest, ImportRequest, ImportSource, Refusal, Start};
+use pad_steps::{
+    Algorithm, Command, CryptRequest, ImportRequest, ImportSource, PinRequest, Refusal, Start,
+};
 use pad_words::Direction;
+use pin_blocks::{AdmitFault, PinWork};
 
 /// Why a command is refused as it is submitted, for what it asks.
-pub fn command_refusal(command: &Command) -> Option<Refusal>
+pub fn command_refusal<W: PinWork>(work: &W, command: &Command) -> Option<Refusal>
     requires { IsTrue (is_command_today command.now) }
-    ensures { result ≡ command_refusal pad_rules command.now }
+    ensures { result ≡ command_refusal W.rules command.now }
 {
     match command {
+        Command::Pin(request) => pin_refusal(work, request),
         Command::Crypt(request) => crypt_refusal(request),
         Command::ImportKey(request) if is_invalid(request) => Some(Refusal::InvalidData),
         Command::RsaImport => Some(Refusal::UnsuppCommand),
         // What a line asks of these is never refused so.
-        Command::GetPin(_) | Command::Pin(_) => None,
-        Command::ImportKey(_) | Command::DeleteKey(_) => None,
+        Command::GetPin(_) | Command::ImportKey(_) | Command::DeleteKey(_) => None,
+        Command::Init | Command::Reset => None,
         // No line asks for another command.
         _ => unreachable!(),
+    }
+}
+
+// Why the PIN work does not admit a request.
+fn pin_refusal<W: PinWork>(work: &W, request: &PinRequest) -> Option<Refusal>
+    requires { IsTrue (is_pin_request request.now) }
+    ensures { result ≡ option_map admit_refusal (W.rules.admit request.now) }
+{
+    match work.admit(request) {
+        Ok(()) => None,
+        Err(AdmitFault::UnsuppCommand) => Some(Refusal::UnsuppCommand),
+        Err(AdmitFault::FormatNotSupported) => Some(Refusal::FormatNotSupported),
+        Err(AdmitFault::InvalidData) => Some(Refusal::InvalidData),
     }
 }
 

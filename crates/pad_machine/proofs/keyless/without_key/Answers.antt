@@ -16,3 +16,9 @@ returns-in-Begin-clause-step c = (Enter, search rules)
 
 pub returns-in-Finish-clause-step : goal.returns-in-Finish-clause-step
 returns-in-Finish-clause-step c = (Enter, search rules)
+
+pub returns-in-Off-clause-step : goal.returns-in-Off-clause-step
+returns-in-Off-clause-step c = (Enter, search rules)
+
+pub returns-in-Boot-clause-step : goal.returns-in-Boot-clause-step
+returns-in-Boot-clause-step c = (Enter, search rules)

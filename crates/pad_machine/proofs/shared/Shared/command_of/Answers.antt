@@ -6,9 +6,9 @@ use Rattle.request_queue.specs.Requests.{pending_by_id, request_command}
 use Rattle.pad_machine.proofs.shared.Shared.command_of.Goals as goal
 
 pub returns-clause-command : goal.returns-clause-command
-returns-clause-command c = c.command.ensures ∙ ap (λ (common : Common). option_map request_command (pending_by_id c.args.id common.requests)) c.self.view_is
+returns-clause-command g c = c.command.ensures ∙ ap (λ (common : Common). option_map request_command (pending_by_id c.args.id common.requests)) c.self.view_is
 
 pub returns-clause-admitted : goal.returns-clause-admitted
-returns-clause-admitted c =
-    if_found-admitted (pending_by_id c.args.id c.args.self.now.requests) c.command.result
-    (λ request. c.pending_commands_pass.ensures is_admitted (shared_of c.args.self.now) c.args.id request c.requires.sound) (returns-clause-command c)
+returns-clause-admitted g c =
+    if_found-admitted g.W.PinWork.rules (pending_by_id c.args.id c.args.self.now.requests) c.command.result
+    (λ request. c.pending_commands_pass.ensures (is_admitted g.W.PinWork.rules) (shared_of c.args.self.now) c.args.id request c.requires.sound) (returns-clause-command g c)
