@@ -70,6 +70,8 @@ rows_take_commands command_verb.PinBlock = row_request read_pinblock RequestFits
 rows_take_commands command_verb.Import = row_request read_import ImportFits import_words (λ request. command.ImportKey request) (command_verb_word command_verb.Import) import_reads.takes (λ r f. f) (λ r. refl)
 rows_take_commands command_verb.Crypt = row_request read_crypt CryptFits crypt_words (λ request. command.Crypt request) (command_verb_word command_verb.Crypt) crypt_reads.takes (λ r f. f) (λ r. refl)
 rows_take_commands command_verb.Delete = row_one read_name NameFits name_word (λ name. command.DeleteKey name) CommandFits command_words (command_verb_word command_verb.Delete) name_field (λ name f. f) (λ name. refl)
+rows_take_commands command_verb.Init = row_none CommandFits command_words (command_verb_word command_verb.Init) command.Init tt refl
+rows_take_commands command_verb.Reset = row_none CommandFits command_words (command_verb_word command_verb.Reset) command.Reset tt refl
 rows_take_commands command_verb.Rsa = row_none CommandFits command_words (command_verb_word command_verb.Rsa) command.RsaImport tt refl
 rows_take_commands other = row_never CommandFits command_words (command_verb_word other)
 
@@ -88,6 +90,8 @@ command_again bytes (command.Pin (pin.Block r)) fits s = command_row command_ver
 command_again bytes (command.Crypt r) fits s = command_row command_verb.Crypt (crypt_words r) bytes s ∙ ap (option_map (λ (request : CryptRequest). command.Crypt request)) (crypt_reads.again s.0 r (fits, s.2))
 command_again bytes (command.ImportKey r) fits s = command_row command_verb.Import (import_words r) bytes s ∙ ap (option_map (λ (request : ImportRequest). command.ImportKey request)) (import_reads.again s.0 r (fits, s.2))
 command_again bytes (command.DeleteKey name) fits s = command_row command_verb.Delete (name_word name ∷ []) bytes s ∙ one_again read_name NameFits name_word (λ name. command.DeleteKey name) name_field s.0 name fits s.2
+command_again bytes command.Init fits s = command_row command_verb.Init [] bytes s ∙ (ended_reads command.Init).again s.0 command.Init (refl, s.2)
+command_again bytes command.Reset fits s = command_row command_verb.Reset [] bytes s ∙ (ended_reads command.Reset).again s.0 command.Reset (refl, s.2)
 command_again bytes command.RsaImport fits s = command_row command_verb.Rsa [] bytes s ∙ (ended_reads command.RsaImport).again s.0 command.RsaImport (refl, s.2)
 command_again bytes other fits s = absurd fits
 

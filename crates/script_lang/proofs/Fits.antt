@@ -4,12 +4,16 @@ use Rattle.std.specs.Prelude.{◌&&◌, IsTrue, nat_le, nat_lt}
 use Rattle.std.specs.List.{AllByRecursion}
 use Rattle.std.proofs.lemmas.Bool.{eqb-true, ltb-true}
 use Rattle.std.proofs.lemmas.Bool.Decides.{nat_tests}
+use Rattle.disk_core.specs.declared.disk.Keep.{Keep}
+use Rattle.disk_core.specs.declared.disk.Keep.TheVariants as kept
+use Rattle.disk_core.specs.declared.disk.Strike.{Strike}
+use Rattle.disk_core.specs.declared.disk.Strike.TheVariants as struck
 use Rattle.pad_words.specs.Names.{is_key_name}
 use Rattle.pad_words.specs.declared.bytes.Block.{Block}
 use Rattle.key_source.specs.Keys.{is_key}
 use Rattle.key_source.specs.declared.Key.{Key}
 use Rattle.key_source.specs.declared.Mask.{Mask}
-use Rattle.script_lang.specs.Spelling.{is_spelled}
+use Rattle.script_lang.specs.Spelling.{is_spelled, is_strike}
 use Rattle.pad_steps.specs.declared.commands.BlockRequest.{BlockRequest}
 use Rattle.pad_steps.specs.declared.commands.CryptRequest.{CryptRequest}
 use Rattle.pad_steps.specs.declared.commands.EntryRules.{EntryRules}
@@ -99,6 +103,8 @@ CommandFits (command.Crypt request) = CryptFits request
 CommandFits (command.ImportKey request) = ImportFits request
 CommandFits (command.DeleteKey name) = NameFits name
 CommandFits command.RsaImport = Unit {0}
+CommandFits command.Init = Unit {0}
+CommandFits command.Reset = Unit {0}
 CommandFits other = ⊥
 
 abbrev pub StepFits : Step → Type 0
@@ -106,11 +112,22 @@ StepFits (step.Open s) = Unit {0}
 StepFits (step.Listen s classes) = Unit {0}
 StepFits (step.Submit s limit c) = (limit ≤ 1000000) × CommandFits c
 StepFits (step.Press key) = KeyFits key
+StepFits step.Off = Unit {0}
+StepFits step.Boot = Unit {0}
 StepFits other = ⊥
+
+abbrev pub KeepFits : Keep → Type 0
+KeepFits (kept.Fill byte) = IsByte byte
+KeepFits other = Unit {0}
+
+abbrev pub StrikeFits : Strike → Type 0
+StrikeFits struck.Fail = Unit {0}
+StrikeFits (struck.Cut keep) = KeepFits keep
 
 abbrev pub LineFits : Line → Type 0
 LineFits line.Auto = Unit {0}
 LineFits (line.Do s) = StepFits s
+LineFits (line.Arm call strike) = (1 ≤ call) × (call ≤ 1000) × StrikeFits strike
 
 -- ---- what is spelled
 
@@ -202,6 +219,8 @@ CommandFits-from_kind (command.Crypt request) e today = CryptFits-from_spelled r
 CommandFits-from_kind (command.ImportKey request) e today = ImportFits-from_request request e today
 CommandFits-from_kind (command.DeleteKey name) e today = e
 CommandFits-from_kind command.RsaImport e today = tt
+CommandFits-from_kind command.Init e today = tt
+CommandFits-from_kind command.Reset e today = tt
 CommandFits-from_kind other e today = absurd cc
 
 CommandFits-from_command : (c : Command) → is_command_today c ≡ true → CommandFits c
@@ -223,8 +242,20 @@ StepFits-from_line (step.Submit s limit c) e =
     let first = both_true (is_session_today s) (eqb limit 0) last.0 in
     (omega (arith, eqb-true limit 0 first.1), CommandFits-from_command c last.1)
 StepFits-from_line (step.Press key) e = KeyFits-from_spelled key e
+StepFits-from_line step.Off e = tt
+StepFits-from_line step.Boot e = tt
 StepFits-from_line other e = absurd cc
+
+StrikeFits-from_spelled : (strike : Strike) → is_strike strike ≡ true → StrikeFits strike
+StrikeFits-from_spelled struck.Fail e = tt
+StrikeFits-from_spelled (struck.Cut kept.Old) e = tt
+StrikeFits-from_spelled (struck.Cut kept.New) e = tt
+StrikeFits-from_spelled (struck.Cut (kept.Fill byte)) e = ltb-true byte 256 e
 
 pub LineFits-from_spelled : (l : Line) → is_spelled l ≡ true → LineFits l
 LineFits-from_spelled line.Auto e = tt
 LineFits-from_spelled (line.Do s) e = StepFits-from_line s e
+LineFits-from_spelled (line.Arm call strike) e =
+    let both = both_true (nat_le 1 call && nat_le call 1000) (is_strike strike) e in
+    let calls = both_true (nat_le 1 call) (nat_le call 1000) both.0 in
+    (grind (arith, nat_tests, calls.0), grind (arith, nat_tests, calls.1), StrikeFits-from_spelled strike both.1)

@@ -17,6 +17,7 @@ pub mod ImportLaws
 pub mod StartLaws
 pub mod CryptLaws
 pub mod CommandLaws
+pub mod ArmingLaws
 pub mod LineLaws
 pub mod WordPrints
 pub mod PrintLaws

@@ -4,13 +4,15 @@ use Rattle.key_source.specs.KeyWordLaws.{key_again, key_takes}
 use Rattle.key_source.specs.KeyWords.{read_key}
 use Rattle.script_lang.specs.Words.{Says, Word}
 use Rattle.script_lang.specs.Reading.{◌>>=◌, line_after, line_of, next_word, read_classes, read_command, read_line_verb, read_session, where_spelled, with_field}
-use Rattle.script_lang.specs.Spelling.{Spells, classes_word, command_words, is_spelled, key_word, line_verb_word, line_words, number_word, session_word}
+use Rattle.script_lang.specs.Spelling.{Spells, classes_word, command_words, is_spelled, keep_words, key_word, line_verb_word, line_words, number_word, session_word}
 use Rattle.pad_steps.specs.declared.commands.Command.{Command}
 use Rattle.script_lang.specs.declared.kinds.Line.{Line}
 use Rattle.script_lang.specs.declared.kinds.LineVerb.{LineVerb}
 use Rattle.script_lang.specs.declared.kinds.LineVerb.TheVariants as line_verb
 use Rattle.pad_steps.specs.declared.steps.Step.TheVariants as step
+use Rattle.disk_core.specs.declared.disk.Strike.TheVariants as struck
 use Rattle.script_lang.specs.declared.kinds.Line.TheVariants as line
+use Rattle.script_lang.proofs.ArmingLaws.{cut_again, cut_takes, fail_again, fail_takes}
 use Rattle.script_lang.proofs.CommandLaws.{command_reads, limit_field}
 use Rattle.script_lang.proofs.Fits.{CommandFits, KeyFits, LineFits, LineFits-from_spelled}
 use Rattle.script_lang.proofs.NumberLaws.{Within, session_field}
@@ -40,6 +42,10 @@ rows_take_lines line_verb.Open = row_one read_session Always session_word (λ s.
 rows_take_lines line_verb.Listen = row_two read_session Always session_word read_classes Always classes_word (λ s c. line.Do (step.Listen s c)) LineFits line_words (line_verb_word line_verb.Listen) session_field classes_field (λ s c f g. tt) (λ s c. refl)
 rows_take_lines line_verb.Submit = submit_takes
 rows_take_lines line_verb.Press = row_one read_key KeyFits key_word (λ k. line.Do (step.Press k)) LineFits line_words (line_verb_word line_verb.Press) key_field (λ k f. f) (λ k. refl)
+rows_take_lines line_verb.Off = row_none LineFits line_words (line_verb_word line_verb.Off) (line.Do step.Off) tt refl
+rows_take_lines line_verb.Boot = row_none LineFits line_words (line_verb_word line_verb.Boot) (line.Do step.Boot) tt refl
+rows_take_lines line_verb.Cut = cut_takes
+rows_take_lines line_verb.Fail = fail_takes
 rows_take_lines other = row_never LineFits line_words (line_verb_word other)
 
 -- a line behind its first word
@@ -56,7 +62,11 @@ row_again (line.Do (step.Submit s limit c)) bytes fits h = line_row line_verb.Su
     ∙ submit_reads.again h.0 (line.Do (step.Submit s limit c)) (s, tt, h.2.0, h.2.1, (limit, (omega arith, fits.0), h.2.2.0, h.2.2.1, (c, (fits.1, h.2.2.2), refl)))
 row_again (line.Do (step.Press k)) bytes fits h = line_row line_verb.Press (key_word k ∷ []) bytes h
     ∙ one_again read_key KeyFits key_word (λ k. line.Do (step.Press k)) key_field h.0 k fits h.2
+row_again (line.Do step.Off) bytes fits h = line_row line_verb.Off [] bytes h ∙ (ended_reads (line.Do step.Off)).again h.0 (line.Do step.Off) (refl, h.2)
+row_again (line.Do step.Boot) bytes fits h = line_row line_verb.Boot [] bytes h ∙ (ended_reads (line.Do step.Boot)).again h.0 (line.Do step.Boot) (refl, h.2)
 row_again (line.Do other) bytes fits h = absurd fits
+row_again (line.Arm call struck.Fail) bytes fits h = line_row line_verb.Fail (number_word call ∷ []) bytes h ∙ fail_again h.0 call (fits.0, fits.1) h.2
+row_again (line.Arm call (struck.Cut keep)) bytes fits h = line_row line_verb.Cut (number_word call ∷ keep_words keep) bytes h ∙ cut_again h.0 call keep (fits.0, fits.1) fits.2 h.2
 
 -- ---- lines
 

@@ -48,6 +48,8 @@ command_prints (command.Pin (pin.Block r)) fits = (command_verb_prints command_v
 command_prints (command.Crypt r) fits = (command_verb_prints command_verb.Crypt, crypt_words_print r fits)
 command_prints (command.ImportKey r) fits = (command_verb_prints command_verb.Import, import_prints r fits)
 command_prints (command.DeleteKey name) fits = (command_verb_prints command_verb.Delete, (name_prints name fits, tt))
+command_prints command.Init fits = (command_verb_prints command_verb.Init, tt)
+command_prints command.Reset fits = (command_verb_prints command_verb.Reset, tt)
 command_prints command.RsaImport fits = (command_verb_prints command_verb.Rsa, tt)
 command_prints other fits = absurd fits
 
@@ -58,6 +60,8 @@ step_prints (step.Open s) fits = (line_verb_prints line_verb.Open, (number_print
 step_prints (step.Listen s c) fits = (line_verb_prints line_verb.Listen, (number_prints s.number (omega (arith, s.valid)), (classes_print c, tt)))
 step_prints (step.Submit s t c) fits = (line_verb_prints line_verb.Submit, (number_prints s.number (omega (arith, s.valid)), (number_prints t (omega (arith, fits.0)), command_prints c fits.1)))
 step_prints (step.Press k) fits = (line_verb_prints line_verb.Press, (key_prints k fits, tt))
+step_prints step.Off fits = (line_verb_prints line_verb.Off, tt)
+step_prints step.Boot fits = (line_verb_prints line_verb.Boot, tt)
 step_prints other fits = absurd fits
 
 -- every step has words

@@ -10,6 +10,7 @@ use Rattle.pad_steps.specs.contracts.commands.Form.{the_type as form_type}
 use Rattle.pad_steps.specs.contracts.commands.Verify.{the_type as verify_type}
 use Rattle.pad_steps.specs.declared.steps.Classes.{Classes}
 use Rattle.script_lang.specs.contracts.kinds.CommandVerb.{the_type as command_verb_type}
+use Rattle.script_lang.specs.contracts.kinds.KeepVerb.{the_type as keep_verb_type}
 use Rattle.script_lang.specs.contracts.kinds.LineVerb.{the_type as line_verb_type}
 use Rattle.script_lang.specs.contracts.kinds.SourceKind.{the_type as source_kind_type}
 use Rattle.pad_words.specs.declared.Direction.{Direction}
@@ -22,9 +23,9 @@ use Rattle.script_lang.specs.declared.kinds.SourceKind.{SourceKind}
 use Rattle.std.specs.List.{list_all}
 use Rattle.spelled_words.specs.TableLaws.{Agrees-from_rows, covers, covers_agree, covers_all, word_passes}
 use Rattle.spelled_words.specs.Tables.{Agrees, has_word, value_of, word_of}
-use Rattle.script_lang.specs.Words.{Exact, algorithm_text, algorithm_words, classes_text, classes_words, command_verb_text, command_verbs, direction_text, direction_words, end_text, end_words, form_text, form_words, is_no_space, line_verb_text, line_verbs, same_classes, source_kind_text, source_kinds, verify_text, verify_words}
-use Rattle.script_lang.specs.Reading.{read_algorithm, read_classes, read_command_verb, read_direction, read_end, read_form, read_line_verb, read_source_kind, read_verify}
-use Rattle.script_lang.specs.Spelling.{algorithm_word, classes_word, command_verb_word, direction_word, end_word, form_word, line_verb_word, source_kind_word, verify_word}
+use Rattle.script_lang.specs.Words.{Exact, algorithm_text, algorithm_words, classes_text, classes_words, command_verb_text, command_verbs, direction_text, direction_words, end_text, end_words, form_text, form_words, is_no_space, keep_verb_text, keep_verbs, line_verb_text, line_verbs, same_classes, source_kind_text, source_kinds, verify_text, verify_words}
+use Rattle.script_lang.specs.Reading.{read_algorithm, read_classes, read_command_verb, read_direction, read_end, read_form, read_keep_verb, read_line_verb, read_source_kind, read_verify}
+use Rattle.script_lang.specs.Spelling.{algorithm_word, classes_word, command_verb_word, direction_word, end_word, form_word, keep_verb_word, line_verb_word, source_kind_word, verify_word}
 use Rattle.script_lang.proofs.Options.{both_true, cases_some, same_bytes, some_is}
 use Rattle.script_lang.proofs.Readers.{Always, IsField, Prints}
 
@@ -128,6 +129,10 @@ direction_prints = enum_prints direction_type direction_words refl refl
 pub line_verb_field : IsField read_line_verb Always line_verb_word
 unfolding read_line_verb line_verb_text
 line_verb_field = enum_field line_verb_type line_verbs tt refl
+
+pub keep_verb_field : IsField read_keep_verb Always keep_verb_word
+unfolding read_keep_verb keep_verb_text
+keep_verb_field = enum_field keep_verb_type keep_verbs tt refl
 
 pub line_verb_prints : (verb : LineVerb) → Prints (line_verb_word verb)
 unfolding line_verb_text

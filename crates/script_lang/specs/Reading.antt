@@ -3,6 +3,9 @@ use Rattle.std.specs.Prelude.{Bool, List, None, Ok, Err, Option, Result, Some, [
 use Rattle.std.specs.Option.{option_map}
 use Rattle.std.specs.List.{prefix_len}
 use denote.Ref.{Bor}
+use Rattle.disk_core.specs.declared.disk.Keep.{Keep}
+use Rattle.disk_core.specs.declared.disk.Keep.TheVariants as kept
+use Rattle.disk_core.specs.declared.disk.Strike.TheVariants as struck
 use Rattle.pad_words.specs.declared.Direction.{Direction}
 use Rattle.pad_words.specs.declared.numbers.Session.{Session}
 use Rattle.pad_words.specs.Bytes.{packed}
@@ -33,11 +36,13 @@ use Rattle.script_lang.specs.declared.kinds.LineFault.{LineFault}
 use Rattle.script_lang.specs.declared.kinds.LineFault.TheVariants as fault
 use Rattle.script_lang.specs.declared.kinds.CommandVerb.{CommandVerb}
 use Rattle.script_lang.specs.declared.kinds.CommandVerb.TheVariants as command_verb
+use Rattle.script_lang.specs.declared.kinds.KeepVerb.{KeepVerb}
+use Rattle.script_lang.specs.declared.kinds.KeepVerb.TheVariants as keep_verb
 use Rattle.script_lang.specs.declared.kinds.LineVerb.{LineVerb}
 use Rattle.script_lang.specs.declared.kinds.LineVerb.TheVariants as line_verb
 use Rattle.script_lang.specs.declared.kinds.SourceKind.{SourceKind}
 use Rattle.script_lang.specs.declared.kinds.SourceKind.TheVariants as source_kind
-use Rattle.script_lang.specs.Words.{algorithm_words, classes_words, command_verbs, direction_words, end_words, form_words, hex_value, hex_values, is_no_space, line_verbs, source_kinds, verify_words}
+use Rattle.script_lang.specs.Words.{algorithm_words, classes_words, command_verbs, direction_words, end_words, form_words, hex_value, hex_values, is_no_space, keep_verbs, line_verbs, source_kinds, verify_words}
 use Rattle.script_lang.specs.Spelling.{is_spelled}
 use Rattle.spelled_words.specs.Tables.{value_of}
 
@@ -183,9 +188,12 @@ read_algorithm = value_of algorithm_words
 unfoldable pub read_direction : List ℕ → Option Direction
 read_direction = value_of direction_words
 
--- the first word of a line, of a command and of the source of an import
+-- the first word of a line, of what a cut makes of bytes, of a command and of the source of an import
 unfoldable pub read_line_verb : List ℕ → Option LineVerb
 read_line_verb = value_of line_verbs
+
+unfoldable pub read_keep_verb : List ℕ → Option KeepVerb
+read_keep_verb = value_of keep_verbs
 
 unfoldable pub read_command_verb : List ℕ → Option CommandVerb
 read_command_verb = value_of command_verbs
@@ -227,11 +235,22 @@ command_after command_verb.PinBlock = λ bytes. option_map (λ (request : BlockR
 command_after command_verb.Import = λ bytes. option_map (λ (request : ImportRequest). command.ImportKey request) (read_import bytes)
 command_after command_verb.Crypt = λ bytes. option_map (λ (request : CryptRequest). command.Crypt request) (read_crypt bytes)
 command_after command_verb.Delete = with_field read_name (λ name. ended (command.DeleteKey name))
+command_after command_verb.Init = ended command.Init
+command_after command_verb.Reset = ended command.Reset
 command_after command_verb.Rsa = ended command.RsaImport
 command_after other = λ bytes. None
 
 unfoldable pub read_command : List ℕ → Option Command
 read_command = with_field read_command_verb command_after
+
+-- what a cut makes of bytes that were not synced, behind its first word
+abbrev pub keep_after : KeepVerb → List ℕ → Option Keep
+keep_after keep_verb.Old = ended kept.Old
+keep_after keep_verb.New = ended kept.New
+keep_after keep_verb.Fill = with_field read_byte (λ byte. ended (kept.Fill byte))
+
+unfoldable pub read_keep : List ℕ → Option Keep
+read_keep = with_field read_keep_verb keep_after
 
 -- a line, behind its first word
 abbrev pub line_after : LineVerb → List ℕ → Option Line
@@ -240,6 +259,10 @@ line_after line_verb.Open = with_field read_session (λ s. ended (line.Do (step.
 line_after line_verb.Listen = with_field read_session (λ s. with_field read_classes (λ c. ended (line.Do (step.Listen s c))))
 line_after line_verb.Submit = with_field read_session (λ s. with_field (read_number 0 1000000) (λ limit bytes. option_map (λ (c : Command). line.Do (step.Submit s limit c)) (read_command bytes)))
 line_after line_verb.Press = with_field read_key (λ k. ended (line.Do (step.Press k)))
+line_after line_verb.Off = ended (line.Do step.Off)
+line_after line_verb.Boot = ended (line.Do step.Boot)
+line_after line_verb.Cut = with_field (read_number 1 1000) (λ call bytes. option_map (λ (keep : Keep). line.Arm call (struck.Cut keep)) (read_keep bytes))
+line_after line_verb.Fail = with_field (read_number 1 1000) (λ call. ended (line.Arm call struck.Fail))
 line_after other = λ bytes. None
 
 -- the line, if its step is one that lines spell

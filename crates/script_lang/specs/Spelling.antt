@@ -1,6 +1,10 @@
 -- The words of each line, and the text that is printed of a step.
-use Rattle.std.specs.Prelude.{Bool, IsTrue, List, None, Option, Some, [], codes, if◌then◌else◌, true, ℕ, ◌%◌, ◌++◌, ◌/◌, ◌∷◌}
+use Rattle.std.specs.Prelude.{Bool, IsTrue, List, None, Option, Some, [], codes, if◌then◌else◌, nat_le, nat_lt, true, ℕ, ◌%◌, ◌&&◌, ◌++◌, ◌/◌, ◌∷◌}
 use Rattle.std.specs.Fmt.{decimal}
+use Rattle.disk_core.specs.declared.disk.Keep.{Keep}
+use Rattle.disk_core.specs.declared.disk.Keep.TheVariants as kept
+use Rattle.disk_core.specs.declared.disk.Strike.{Strike}
+use Rattle.disk_core.specs.declared.disk.Strike.TheVariants as struck
 use Rattle.pad_words.specs.declared.numbers.Session.{Session}
 use Rattle.key_source.specs.KeyWords.{key_text}
 use Rattle.key_source.specs.declared.Key.{Key}
@@ -34,11 +38,13 @@ use Rattle.script_lang.specs.declared.kinds.Line.{Line}
 use Rattle.script_lang.specs.declared.kinds.Line.TheVariants as line
 use Rattle.script_lang.specs.declared.kinds.CommandVerb.{CommandVerb}
 use Rattle.script_lang.specs.declared.kinds.CommandVerb.TheVariants as command_verb
+use Rattle.script_lang.specs.declared.kinds.KeepVerb.{KeepVerb}
+use Rattle.script_lang.specs.declared.kinds.KeepVerb.TheVariants as keep_verb
 use Rattle.script_lang.specs.declared.kinds.LineVerb.{LineVerb}
 use Rattle.script_lang.specs.declared.kinds.LineVerb.TheVariants as line_verb
 use Rattle.script_lang.specs.declared.kinds.SourceKind.{SourceKind}
 use Rattle.script_lang.specs.declared.kinds.SourceKind.TheVariants as source_kind
-use Rattle.script_lang.specs.Words.{Digits, Exact, Says, Tagged, Word, algorithm_text, classes_text, command_verb_text, direction_text, end_text, form_text, joined, line_verb_text, source_kind_text, verify_text}
+use Rattle.script_lang.specs.Words.{Digits, Exact, Says, Tagged, Word, algorithm_text, classes_text, command_verb_text, direction_text, end_text, form_text, joined, keep_verb_text, line_verb_text, source_kind_text, verify_text}
 
 -- ---- fields
 
@@ -83,9 +89,12 @@ algorithm_word a = Exact (algorithm_text a)
 abbrev pub direction_word : Direction → Word
 direction_word d = Exact (direction_text d)
 
--- the first word of a line, of a command and of the source of an import
+-- the first word of a line, of what a cut makes of bytes, of a command and of the source of an import
 abbrev pub line_verb_word : LineVerb → Word
 line_verb_word verb = Exact (line_verb_text verb)
+
+abbrev pub keep_verb_word : KeepVerb → Word
+keep_verb_word verb = Exact (keep_verb_text verb)
 
 abbrev pub command_verb_word : CommandVerb → Word
 command_verb_word verb = Exact (command_verb_text verb)
@@ -214,14 +223,36 @@ step_words step.Boot = line_verb_word line_verb.Boot ∷ []
 
 -- ---- lines
 
+-- what a cut makes of bytes that were not synced
+abbrev pub keep_words : Keep → List Word
+keep_words kept.Old = keep_verb_word keep_verb.Old ∷ []
+keep_words kept.New = keep_verb_word keep_verb.New ∷ []
+keep_words (kept.Fill byte) = keep_verb_word keep_verb.Fill ∷ byte_word byte ∷ []
+
+-- the number of the call that is struck, and how
+abbrev pub arming_words : ℕ → Strike → List Word
+arming_words call struck.Fail = line_verb_word line_verb.Fail ∷ number_word call ∷ []
+arming_words call (struck.Cut keep) = line_verb_word line_verb.Cut ∷ number_word call ∷ keep_words keep
+
 abbrev pub line_words : Line → List Word
 line_words line.Auto = line_verb_word line_verb.Auto ∷ []
 line_words (line.Do s) = step_words s
+line_words (line.Arm call strike) = arming_words call strike
 
--- `auto`, or a step that lines spell
+-- what fills is a byte
+abbrev pub is_keep : Keep → Bool
+is_keep (kept.Fill byte) = nat_lt byte 256
+is_keep other = true
+
+abbrev pub is_strike : Strike → Bool
+is_strike struck.Fail = true
+is_strike (struck.Cut keep) = is_keep keep
+
+-- `auto`, a step that lines spell, or one of the next thousand calls and its strike
 abbrev pub is_spelled : Line → Bool
 is_spelled line.Auto = true
 is_spelled (line.Do s) = is_line_today s
+is_spelled (line.Arm call strike) = nat_le 1 call && nat_le call 1000 && is_strike strike
 
 -- the bytes, without their line feed, spell this line: its words with one space between two, and nothing else
 abbrev pub Spells : List ℕ → Line → Type 0

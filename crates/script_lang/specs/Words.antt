@@ -17,10 +17,13 @@ use Rattle.pad_steps.specs.declared.commands.Verify.{Verify}
 use Rattle.pad_steps.specs.declared.commands.Verify.TheVariants as verify
 use Rattle.pad_steps.specs.declared.steps.Classes.{Classes}
 use Rattle.script_lang.specs.contracts.kinds.CommandVerb.{the_type as command_verb_type}
+use Rattle.script_lang.specs.contracts.kinds.KeepVerb.{the_type as keep_verb_type}
 use Rattle.script_lang.specs.contracts.kinds.LineVerb.{the_type as line_verb_type}
 use Rattle.script_lang.specs.contracts.kinds.SourceKind.{the_type as source_kind_type}
 use Rattle.script_lang.specs.declared.kinds.CommandVerb.{CommandVerb}
 use Rattle.script_lang.specs.declared.kinds.CommandVerb.TheVariants as command_verb
+use Rattle.script_lang.specs.declared.kinds.KeepVerb.{KeepVerb}
+use Rattle.script_lang.specs.declared.kinds.KeepVerb.TheVariants as keep_verb
 use Rattle.script_lang.specs.declared.kinds.LineVerb.{LineVerb}
 use Rattle.script_lang.specs.declared.kinds.LineVerb.TheVariants as line_verb
 use Rattle.script_lang.specs.declared.kinds.SourceKind.{SourceKind}
@@ -108,7 +111,9 @@ line_verbs =
     (line_verb.Tick, codes "tick") ∷
     (line_verb.Ask, codes "ask") ∷
     (line_verb.Off, codes "off") ∷
-    (line_verb.Boot, codes "boot") ∷ []
+    (line_verb.Boot, codes "boot") ∷
+    (line_verb.Cut, codes "cut") ∷
+    (line_verb.Fail, codes "fail") ∷ []
 
 unfoldable pub line_verb_text : LineVerb → List ℕ
 line_verb_text = word_of (sameb line_verb_type) line_verbs
@@ -130,6 +135,16 @@ command_verbs =
 
 unfoldable pub command_verb_text : CommandVerb → List ℕ
 command_verb_text = word_of (sameb command_verb_type) command_verbs
+
+-- the first words of what a power cut makes of bytes that were not synced
+abbrev pub keep_verbs : List (KeepVerb × List ℕ)
+keep_verbs =
+    (keep_verb.Old, codes "old") ∷
+    (keep_verb.New, codes "new") ∷
+    (keep_verb.Fill, codes "fill") ∷ []
+
+unfoldable pub keep_verb_text : KeepVerb → List ℕ
+keep_verb_text = word_of (sameb keep_verb_type) keep_verbs
 
 -- the first words of the sources of imports
 abbrev pub source_kinds : List (SourceKind × List ℕ)

@@ -187,6 +187,14 @@ pub fn read_command(alloc: Global, rest: &[u8]) -> Result<Command, LineFault>
             present(ended(rest))?;
             Ok(Command::DeleteKey(name))
         }
+        CommandVerb::Init => {
+            present(ended(rest))?;
+            Ok(Command::Init)
+        }
+        CommandVerb::Reset => {
+            present(ended(rest))?;
+            Ok(Command::Reset)
+        }
         CommandVerb::Rsa => {
             present(ended(rest))?;
             Ok(Command::RsaImport)

@@ -43,6 +43,8 @@ fn put_step(alloc: Global, step: &Step, text: &mut Octets) -> Result<(), NoMemor
             text.push(b' ')?;
             write_key(*key, text)
         }
+        Step::Off => write_word(line_verb_word(LineVerb::Off), text),
+        Step::Boot => write_word(line_verb_word(LineVerb::Boot), text),
         // no line spells another step yet
         _ => unreachable!(),
     }

@@ -1,4 +1,5 @@
 //! What a line of a script says, and which words lines and commands begin with.
+use disk_core::Strike;
 use pad_steps::Step;
 
 /// A line of a script.
@@ -8,6 +9,8 @@ pub enum Line {
     Auto,
     /// One step.
     Do(Step),
+    /// No step: the call of the disk with this number is armed, where 1 is the next.
+    Arm(u32, Strike),
 }
 
 /// Why a line is not read.
@@ -37,6 +40,8 @@ pub enum LineVerb {
     Ask,
     Off,
     Boot,
+    Cut,
+    Fail,
 }
 
 /// The first word of a command.
@@ -53,6 +58,14 @@ pub enum CommandVerb {
     Reset,
     Rsa,
     Crypt,
+}
+
+/// The first word of what a power cut makes of bytes that were not synced.
+#[derive(Clone, Copy, Debug, PartialEq, Eq)]
+pub enum KeepVerb {
+    Old,
+    New,
+    Fill,
 }
 
 /// The first word of the source of an import.

@@ -115,6 +115,8 @@ pub fn put_command(alloc: Global, command: &Command, text: &mut Octets) -> Resul
             put_word(command_verb_word(CommandVerb::Delete), text)?;
             put_name(name, text)
         }
+        Command::Init => put_word(command_verb_word(CommandVerb::Init), text),
+        Command::Reset => put_word(command_verb_word(CommandVerb::Reset), text),
         Command::RsaImport => put_word(command_verb_word(CommandVerb::Rsa), text),
         // no line spells another command yet
         _ => unreachable!(),

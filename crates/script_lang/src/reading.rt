@@ -1,19 +1,48 @@
 //! Lines read from left to right, word by word.
 ghost use Rattle.std.specs.Prelude.{◌≡◌, IfOk, Err};
-ghost use Rattle.script_lang.specs.Reading.{line_after, line_of, Gives};
-ghost use Rattle.script_lang.specs.Spelling.{is_spelled, Spells};
+ghost use Rattle.script_lang.specs.Reading.{line_after, line_of, read_keep, Gives};
+ghost use Rattle.script_lang.specs.Spelling.{is_keep, is_spelled, is_strike, Spells};
 ghost use Rattle.script_lang.specs.declared.kinds.Line.{Line};
 ghost use Rattle.script_lang.specs.declared.kinds.LineFault.TheVariants.{Outside};
 
 use crate::commands::{present, read_command};
 use crate::cutting::{ended, next_word, word_len};
+use crate::digit_fields::read_byte;
 use crate::fields::{read_number, read_session};
-use crate::kinds::{Line, LineFault, LineVerb};
-use crate::verb_fields::read_line_verb;
+use crate::kinds::{KeepVerb, Line, LineFault, LineVerb};
+use crate::verb_fields::{read_keep_verb, read_line_verb};
 use crate::word_fields::read_classes;
+use disk_core::{Keep, Strike};
 use key_source::Key;
 use pad_steps::Step;
 use std::alloc::Global;
+
+/// The greatest number of a call that a line arms.
+const LAST_CALL: u32 = 1000;
+
+// what a power cut makes of bytes that were not synced, to the line's end
+#[tactic(auto, unfolding(crate::specs::Reading::read_keep))]
+fn read_keep(rest: &[u8]) -> Option<Keep>
+    ensures { result ≡ read_keep rest.now }
+{
+    let (word, rest) = next_word(rest)?;
+    match read_keep_verb(word)? {
+        KeepVerb::Old => {
+            ended(rest)?;
+            Some(Keep::Old)
+        }
+        KeepVerb::New => {
+            ended(rest)?;
+            Some(Keep::New)
+        }
+        KeepVerb::Fill => {
+            let (word, rest) = next_word(rest)?;
+            let byte = read_byte(word)?;
+            ended(rest)?;
+            Some(Keep::Fill(byte))
+        }
+    }
+}
 
 // the line that begins with this verb
 fn read_row(alloc: Global, verb: LineVerb, rest: &[u8]) -> Result<Line, LineFault>
@@ -52,18 +81,59 @@ fn read_row(alloc: Global, verb: LineVerb, rest: &[u8]) -> Result<Line, LineFaul
             present(ended(rest))?;
             Ok(Line::Do(Step::Press(key)))
         }
+        LineVerb::Off => {
+            present(ended(rest))?;
+            Ok(Line::Do(Step::Off))
+        }
+        LineVerb::Boot => {
+            present(ended(rest))?;
+            Ok(Line::Do(Step::Boot))
+        }
+        LineVerb::Cut => {
+            let (word, rest) = present(next_word(rest))?;
+            let call = present(read_number(1, LAST_CALL, word))?;
+            let keep = present(read_keep(rest))?;
+            Ok(Line::Arm(call, Strike::Cut(keep)))
+        }
+        LineVerb::Fail => {
+            let (word, rest) = present(next_word(rest))?;
+            let call = present(read_number(1, LAST_CALL, word))?;
+            present(ended(rest))?;
+            Ok(Line::Arm(call, Strike::Fail))
+        }
         // no line is read by another verb yet
         _ => Err(LineFault::Outside),
     }
 }
 
-// whether the line is `auto`, or a step that a line of the script spells
+// whether the byte that fills is one
+fn is_keep(keep: &Keep) -> bool
+    ensures { result ≡ is_keep keep.now }
+{
+    match keep {
+        Keep::Old | Keep::New => true,
+        Keep::Fill(byte) => u32::from(*byte) < 256,
+    }
+}
+
+// whether a line spells this strike
+fn is_strike(strike: &Strike) -> bool
+    ensures { result ≡ is_strike strike.now }
+{
+    match strike {
+        Strike::Fail => true,
+        Strike::Cut(keep) => is_keep(keep),
+    }
+}
+
+// whether the line is `auto`, a step that a line of the script spells, or a call that a line can arm
 fn is_spelled(line: &Line) -> bool
     ensures { result ≡ is_spelled line.now }
 {
     match line {
         Line::Auto => true,
         Line::Do(step) => step.is_line_today(),
+        Line::Arm(call, strike) => 1 <= *call && *call <= LAST_CALL && is_strike(strike),
     }
 }
 

@@ -2,6 +2,7 @@ ghost use Rattle.std.specs.Prelude.{IsTrue};
 ghost use Rattle.pad_steps.specs.Today.{is_taken_today};
 
 use crate::{Line, LineFault, read_line, spelled_again, write_step, writing};
+use disk_core::{Keep, Strike};
 use key_source::Key;
 use pad_steps::{
     Algorithm, BlockRequest, Classes, Command, CryptRequest, Form, ImportRequest, ImportSource,
@@ -89,6 +90,10 @@ const LINES: &[&str] = &[
     "press cancel",
     "press clear",
     "press back",
+    "off",
+    "boot",
+    "submit 1 0 init",
+    "submit 1 0 reset",
 ];
 
 // lines that differ from the kinds that lines have
@@ -144,8 +149,10 @@ const OTHER_LINES: &[&str] = &[
     "submit 1 0 getpin 4 16 hold 000F03FF00000000",
     "submit 1 0 getpin 4 16 hold 000F03FF00000000 0003000000000000 ",
     "submit 1 0 getdata 4 16 hold 000F03FF00000000 0003000000000000",
-    "submit 1 0 init",
-    "submit 1 0 reset",
+    "submit 1 0 init 1",
+    "submit 1 0 inits",
+    "submit 1 0 reset ",
+    "submit 1 1 reset",
     "submit 1 0",
     "submit 1 0 delete",
     "submit 1 0 delete ",
@@ -180,7 +187,12 @@ const OTHER_LINES: &[&str] = &[
     "begin",
     "finish",
     "close 1",
-    "boot",
+    "boot 1",
+    "boot ",
+    "boots",
+    "off 1",
+    "offs",
+    "Off",
 ];
 
 // imports that differ in one field
@@ -356,6 +368,52 @@ const OTHER_BYTES: &[&[u8]] = &[
     &[0, b'a', b'u', b't', b'o'],
 ];
 
+// lines that arm a call: its number, and what is to happen to it
+const ARMINGS: &[(&str, u32, Strike)] = &[
+    ("fail 1", 1, Strike::Fail),
+    ("fail 1000", 1000, Strike::Fail),
+    ("cut 1 old", 1, Strike::Cut(Keep::Old)),
+    ("cut 12 new", 12, Strike::Cut(Keep::New)),
+    ("cut 1000 fill 00", 1000, Strike::Cut(Keep::Fill(0))),
+    ("cut 4 fill 7A", 4, Strike::Cut(Keep::Fill(0x7A))),
+    ("cut 999 fill FF", 999, Strike::Cut(Keep::Fill(0xFF))),
+];
+
+// lines that arm no call
+const OTHER_ARMINGS: &[&str] = &[
+    "fail",
+    "fail 0",
+    "fail 01",
+    "fail 1001",
+    "fail 4294967297",
+    "fail -1",
+    "fail 1 ",
+    "fail 1 old",
+    "fail  1",
+    "cut",
+    "cut 1",
+    "cut 1 ",
+    "cut 0 old",
+    "cut 1001 old",
+    "cut 01 old",
+    "cut old",
+    "cut 1 Old",
+    "cut 1 other",
+    "cut 1 old 00",
+    "cut 1 new 00",
+    "cut 1  new",
+    "cut 1 new ",
+    "cut 1 fill",
+    "cut 1 fill ",
+    "cut 1 fill 0",
+    "cut 1 fill 000",
+    "cut 1 fill 7a",
+    "cut 1 fill 7G",
+    "cut 1 fill 77 77",
+    "cut 1 fill 77 ",
+    "cut 1 77",
+];
+
 // whether the line is outside the grammar
 fn is_outside(alloc: Global, line: &[u8]) -> bool {
     match read_line(alloc, line) {
@@ -388,7 +446,13 @@ fn lines_are_read_and_printed_again(rt: HostRuntime) -> Result<(), Fail> {
 
 #[test]
 fn other_lines_are_outside(rt: HostRuntime) -> Result<(), Fail> {
-    for lines in [OTHER_LINES, OTHER_IMPORTS, OTHER_BLOCKS, OTHER_CRYPTS] {
+    for lines in [
+        OTHER_LINES,
+        OTHER_IMPORTS,
+        OTHER_BLOCKS,
+        OTHER_CRYPTS,
+        OTHER_ARMINGS,
+    ] {
         for line in lines {
             assert!(rt; is_outside(rt.alloc(), line.as_bytes()), "{line} is read");
         }
@@ -607,6 +671,23 @@ fn blocks_and_crypts_have_their_fields(rt: HostRuntime) -> Result<(), Fail> {
     assert!(rt; is_block(command_of(&line)?));
     let line = said(rt.alloc(), CRYPT.as_bytes())?;
     assert!(rt; is_crypt(command_of(&line)?));
+    Ok(())
+}
+
+// whether the line arms this call so
+fn arms(line: &Line, number: u32, strike: Strike) -> bool {
+    match line {
+        Line::Arm(call, armed) => *call == number && *armed == strike,
+        _ => false,
+    }
+}
+
+#[test]
+fn armings_have_their_call_and_strike(rt: HostRuntime) -> Result<(), Fail> {
+    for &(text, call, strike) in ARMINGS {
+        let line = said(rt.alloc(), text.as_bytes())?;
+        assert!(rt; arms(&line, call, strike), "{text} is read otherwise");
+    }
     Ok(())
 }
 

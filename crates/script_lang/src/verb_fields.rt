@@ -1,13 +1,13 @@
 //! Tables of first words, and what they read and write.
 ghost use Rattle.std.specs.Prelude.{◌≡◌};
-ghost use Rattle.script_lang.specs.Reading.{read_command_verb, read_line_verb, read_source_kind};
-ghost use Rattle.script_lang.specs.Words.{command_verb_text, line_verb_text, source_kind_text};
+ghost use Rattle.script_lang.specs.Reading.{read_command_verb, read_keep_verb, read_line_verb, read_source_kind};
+ghost use Rattle.script_lang.specs.Words.{command_verb_text, keep_verb_text, line_verb_text, source_kind_text};
 
-use crate::kinds::{CommandVerb, LineVerb, SourceKind};
+use crate::kinds::{CommandVerb, KeepVerb, LineVerb, SourceKind};
 use spelled_words::{Spelled, value_of, word_of};
 
 // first words of lines
-const LINE_VERBS: [Spelled<LineVerb>; 15] = [
+const LINE_VERBS: [Spelled<LineVerb>; 17] = [
     Spelled(LineVerb::Auto, "auto"),
     Spelled(LineVerb::Open, "open"),
     Spelled(LineVerb::Close, "close"),
@@ -23,6 +23,8 @@ const LINE_VERBS: [Spelled<LineVerb>; 15] = [
     Spelled(LineVerb::Ask, "ask"),
     Spelled(LineVerb::Off, "off"),
     Spelled(LineVerb::Boot, "boot"),
+    Spelled(LineVerb::Cut, "cut"),
+    Spelled(LineVerb::Fail, "fail"),
 ];
 
 // the line's verb that this word spells
@@ -70,6 +72,21 @@ pub fn command_verb_word(verb: CommandVerb) -> &'static str
     ensures { result.now ≡ command_verb_text verb }
 {
     word_of(&COMMAND_VERBS, verb)
+}
+
+// first words of what a power cut makes of bytes
+const KEEP_VERBS: [Spelled<KeepVerb>; 3] = [
+    Spelled(KeepVerb::Old, "old"),
+    Spelled(KeepVerb::New, "new"),
+    Spelled(KeepVerb::Fill, "fill"),
+];
+
+// what a power cut makes of bytes, by its first word
+#[tactic(auto, unfolding(crate::specs::Reading::read_keep_verb))]
+pub fn read_keep_verb(word: &[u8]) -> Option<KeepVerb>
+    ensures { result ≡ read_keep_verb word.now }
+{
+    value_of(&KEEP_VERBS, word)
 }
 
 // first words of the sources of imports

@@ -1,19 +1,10 @@
 -- What the disk did in a step, behind the step on its line.
-use Rattle.std.specs.Prelude.{Bool, List, None, Option, Some, [], codes, false, length, true, ℕ, ◌++◌}
+use Rattle.std.specs.Prelude.{List, None, Option, Some, [], codes, length, ℕ, ◌++◌}
 use Rattle.std.specs.Fmt.{decimal}
 use Rattle.pad_steps.specs.declared.steps.DiskWord.{DiskWord}
 use Rattle.pad_steps.specs.declared.steps.DiskWord.TheVariants as word
 use Rattle.pad_steps.specs.declared.steps.Fate.{Fate}
 use Rattle.pad_steps.specs.declared.steps.Fate.TheVariants as fate
-
--- the store was loaded
-abbrev pub is_loaded : DiskWord → Bool
-is_loaded word.Quiet = false
-is_loaded word.Done = false
-is_loaded (word.Failed n) = false
-is_loaded (word.Cut n) = false
-is_loaded (word.Loaded rows) = true
-is_loaded (word.Bad slot) = false
 
 -- what became of the slot in doubt
 unfoldable pub fate_text : Fate → List ℕ

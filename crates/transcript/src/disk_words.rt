@@ -1,6 +1,6 @@
 //! The disk's word put behind a text.
-ghost use Rattle.std.specs.Prelude.{◌≡◌, ◌++◌, OnOk, Some, is_some};
-ghost use Rattle.transcript.specs.DiskWords.{is_loaded, fate_text, loaded_text, disk_word_text};
+ghost use Rattle.std.specs.Prelude.{◌≡◌, ◌++◌, OnOk};
+ghost use Rattle.transcript.specs.DiskWords.{fate_text, loaded_text, disk_word_text};
 
 use crate::values::put_count;
 use pad_steps::{DiskWord, Fate};
@@ -22,16 +22,24 @@ fn put_fate(fate: Fate, text: &mut Octets) -> Result<(), NoMemory>
 }
 
 #[tactic(auto, unfolding(crate::specs::DiskWords::loaded_text))]
-fn put_loaded(alloc: Global, count: usize, fate: Fate, text: &mut Octets) -> Result<(), NoMemory>
-    ensures { OnOk result (text.new ≡ text.old ++ loaded_text count (Some fate)) }
+fn put_loaded(
+    alloc: Global,
+    count: usize,
+    fate: Option<Fate>,
+    text: &mut Octets,
+) -> Result<(), NoMemory>
+    ensures { OnOk result (text.new ≡ text.old ++ loaded_text count fate) }
 {
+    let Some(fate) = fate else {
+        return Ok(());
+    };
     write_word(" / loaded ", text)?;
     put_count(alloc, count, text)?;
     write_word(" ", text)?;
     put_fate(fate, text)
 }
 
-/// Puts the word behind a slash. A loading has a fate, and nothing else has.
+/// Puts the word behind a slash. A loading has a fate, and nothing is put of one without.
 #[tactic(auto, unfolding(crate::specs::DiskWords::disk_word_text))]
 pub fn put_disk_word(
     alloc: Global,
@@ -39,7 +47,6 @@ pub fn put_disk_word(
     fate: Option<Fate>,
     text: &mut Octets,
 ) -> Result<(), NoMemory>
-    requires { is_some fate ≡ is_loaded word.now }
     ensures { OnOk result (text.new ≡ text.old ++ disk_word_text word.now fate) }
 {
     match word {
@@ -53,10 +60,7 @@ pub fn put_disk_word(
             write_word(" / cut ", text)?;
             write_number(alloc, u32::from(*n), text)
         }
-        DiskWord::Loaded(rows) => match fate {
-            Some(fate) => put_loaded(alloc, rows.items().len(), fate, text),
-            None => unreachable!(),
-        },
+        DiskWord::Loaded(rows) => put_loaded(alloc, rows.items().len(), fate, text),
         DiskWord::Bad(slot) => {
             write_word(" / bad ", text)?;
             write_number(alloc, u32::from(*slot), text)

@@ -1,11 +1,10 @@
 //! The text of a step given to a sink.
-ghost use Rattle.std.specs.Prelude.{◌≡◌, ◌≤◌, IfSome, IsTrue, OnOk, OnErr, Err, is_some};
+ghost use Rattle.std.specs.Prelude.{◌≡◌, ◌≤◌, IfSome, IsTrue, OnOk, OnErr, Err};
 ghost use Rattle.std.specs.Option.{option_copied};
 ghost use Rattle.disk_core.specs.Causes.{Rose};
 ghost use Rattle.disk_core.specs.CountedSinks.{counted_given, counted_faults};
 ghost use Rattle.disk_core.specs.Streams.{GivesFront, with_more};
 ghost use Rattle.pad_steps.specs.Today.{is_taken_today};
-ghost use Rattle.transcript.specs.DiskWords.{is_loaded};
 ghost use Rattle.transcript.specs.PrintedLines.{line_text, line_of_shown, line_of_step};
 
 use crate::lines::put_line;
@@ -25,8 +24,7 @@ pub enum PrintFault {
 }
 
 /// Gives the text of a step to the sink: the step with the disk's word on one line, `press *` where it is
-/// masked, and a line for each out. The fate is there exactly where the word is Loaded. After a fault a
-/// front of the text was given.
+/// masked, and a line for each out. After a fault a front of the text was given.
 pub fn print_step<K: Sink>(
     alloc: Global,
     step: &Step,
@@ -36,8 +34,7 @@ pub fn print_step<K: Sink>(
     outs: &Outs,
     sink: &mut Counted<K>,
 ) -> Result<(), PrintFault>
-    requires formed { IsTrue (is_taken_today step.now) }
-    requires fate { is_some fate ≡ is_loaded word.now }
+    requires { IsTrue (is_taken_today step.now) }
     ensures ok { OnOk result (counted_given K.given sink.new ≡
         with_more (counted_given K.given sink.old) (line_text (line_of_step step.now masked word.now fate outs.now.items))) }
     ensures err { OnErr result (GivesFront (counted_given K.given sink.old) (counted_given K.given sink.new)
@@ -58,8 +55,7 @@ fn print_shown<K: Sink>(
     outs: &Outs,
     sink: &mut Counted<K>,
 ) -> Result<(), PrintFault>
-    requires formed { IfSome shown (λ step. IsTrue (is_taken_today step.now)) }
-    requires fate { is_some fate ≡ is_loaded word.now }
+    requires { IfSome shown (λ step. IsTrue (is_taken_today step.now)) }
     ensures ok { OnOk result (counted_given K.given sink.new ≡
         with_more (counted_given K.given sink.old) (line_text (line_of_shown (option_copied shown.entry) word.now fate outs.now.items))) }
     ensures err { OnErr result (GivesFront (counted_given K.given sink.old) (counted_given K.given sink.new)

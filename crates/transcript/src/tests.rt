@@ -1,6 +1,4 @@
 //! The texts of steps made by hand, byte for byte. What is expected is written from the table of printed lines.
-ghost use Rattle.std.specs.Prelude.{◌≡◌, is_some};
-ghost use Rattle.transcript.specs.DiskWords.{is_loaded};
 
 use crate::{PrintFault, print_step};
 use disk_core::{Calls, Counted, MemSink};
@@ -47,9 +45,7 @@ fn prints_word(
     word: DiskWord,
     fate: Option<Fate>,
     line: &str,
-) -> Result<(), Fail>
-    requires { is_some fate ≡ is_loaded word }
-{
+) -> Result<(), Fail> {
     let outs = Outs::new(alloc)?;
     let mut sink = sink(rt, alloc, 40, &[]);
     let printed = print_step(alloc, &Step::Begin, false, &word, fate, &outs, &mut sink);
