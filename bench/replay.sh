@@ -17,7 +17,7 @@ longest=1048576
 
 # One entry that is filled and cleared again and again, and ended by Enter at last.
 long_entry() {
-    printf 'open 1\nlisten 1 execute\n%s\nauto\n' "$submit"
+    printf 'boot\nopen 1\nlisten 1 execute\n%s\nauto\n' "$submit"
     awk -v bytes=$(($1 - 200)) 'BEGIN {
         for (at = 0; at < bytes; at += length(line) + 1) {
             line = n % 20 == 19 ? "press clear" : "press " n % 10
@@ -30,7 +30,7 @@ long_entry() {
 
 # Entries that are each ended by CANCEL at once.
 short_entries() {
-    printf 'open 1\nlisten 1 execute\n'
+    printf 'boot\nopen 1\nlisten 1 execute\n'
     awk -v bytes=$(($1 - 200)) -v submit="$submit" 'BEGIN {
         entry = submit "\nauto\npress cancel"
         for (at = 0; at < bytes; at += length(entry) + 1) print entry

@@ -1,63 +1,119 @@
 -- A whole run, and what is read of its script.
-use Rattle.std.proofs.Common.{ap, subst, sym, ◌∙◌}
+use Rattle.std.proofs.Common.{append-nil, ap, subst, sym, ◌∙◌}
 use Rattle.std.proofs.lemmas.Bool.Decides.{leb_tells, nat_tests}
 use Rattle.std.proofs.Common.{arith, inl, inr}
 use Rattle.std.specs.Prelude.{IfNone, IfSome, IsSome, List, None, OnSome, Option, Some, [], false, length, nat_le, refl, true, ℕ, ◌<◌, ◌≡◌, ◌≤◌}
+use Rattle.disk_core.specs.DiskStates.{DiskState}
 use Rattle.disk_core.specs.Streams.{GivesFront, with_more}
-use Rattle.flat_machine.specs.Kept.{Kept}
+use Rattle.flat_machine.specs.Deeds.{Deed, acts_in}
 use Rattle.flat_machine.specs.Machine.{Act}
-use Rattle.flat_machine.specs.State.{Flat, ready_opening}
-use Rattle.pad_machine.specs.Stands.{StandsFor, zero_seed}
+use Rattle.flat_machine.specs.State.{Flat, opening}
+use Rattle.pad_machine.specs.Stands.{PadState, StandsFor}
 use Rattle.pad_steps.specs.declared.steps.DiskWord.{DiskWord}
-use Rattle.pinpad_cli.proofs.RunLemmas.{finished-ran, front-broke, front-whole}
+use Rattle.pinpad_cli.proofs.DiskLemmas.{Unloaded, runs-on}
+use Rattle.pinpad_cli.proofs.RunLemmas.{OnDisk, finished-ran, front-broke, front-whole, wordless-play}
 use Rattle.pinpad_cli.specs.declared.running.Fault.{Fault}
-use Rattle.pinpad_cli.specs.Parts.{BrokeOff, Ran}
+use Rattle.pinpad_cli.specs.Parts.{BrokeOff, Ran, RunsOnDisk}
 use Rattle.pinpad_cli.specs.Reading.{IsRead}
-use Rattle.pinpad_cli.specs.Runs.{has_word_per_step, play, play_lines, steps_of, text_of}
+use Rattle.pinpad_cli.specs.Runs.{deeds_of, has_word_per_step, play, play_lines, steps_of, text_of, zero_seed}
 use Rattle.pinpad_cli.specs.Script.{lines_of}
 use Rattle.script_lang.specs.declared.kinds.Line.{Line}
 
 module _ (seed : List ℕ) where
-  steps_of-lines : (script : List ℕ) (lines : List Line) (words : List DiskWord) → lines_of script ≡ Some lines → steps_of seed script words ≡ (play seed lines ready_opening words).acts
-  unfolding steps_of
-  steps_of-lines script lines words is = ap (λ (found : Option (List Line)). (play_lines seed found words).acts) is
+  deeds_of-lines : (script : List ℕ) (lines : List Line) (words : List DiskWord) → lines_of script ≡ Some lines → deeds_of seed script words ≡ (play seed lines opening words).deeds
+  unfolding deeds_of
+  deeds_of-lines script lines words is = ap (λ (found : Option (List Line)). (play_lines seed found words).deeds) is
 
-  has_word-lines : (script : List ℕ) (lines : List Line) (words : List DiskWord) → lines_of script ≡ Some lines → has_word_per_step seed script words ≡ (play seed lines ready_opening words).whole
+  has_word-lines : (script : List ℕ) (lines : List Line) (words : List DiskWord) → lines_of script ≡ Some lines → has_word_per_step seed script words ≡ (play seed lines opening words).whole
   unfolding has_word_per_step
   has_word-lines script lines words is = ap (λ (found : Option (List Line)). (play_lines seed found words).whole) is
 
-  pub script-ran : (script : List ℕ) (lines slice : List Line) (kept : Kept) (words told : List DiskWord) (given now : Option (List ℕ)) → lines_of script ≡ Some lines → slice ≡ lines → words ≡ []
-      → Ran seed ready_opening (play seed slice) (play seed []) kept words told given now → (has_word_per_step seed script told ≡ true) × (now ≡ with_more given (text_of seed (steps_of seed script told)))
-  script-ran script lines slice kept words told given now is same none ran =
-      let from_words = λ (w : List DiskWord). Ran seed ready_opening (play seed lines) (play seed []) kept w told given now in
-      let from_lines = λ (l : List Line). Ran seed ready_opening (play seed l) (play seed []) kept words told given now in
-      let done = finished-ran seed lines kept told given now (subst from_words none (subst from_lines same ran)) in
-      (has_word-lines script lines told is ∙ done.whole, done.printed ∙ ap (λ (acts : List Act). with_more given (text_of seed acts)) (sym (steps_of-lines script lines told is)))
+  -- a run to the end
+  pub record IsWhole (script : List ℕ) (told : List DiskWord) (given now : Option (List ℕ)) (s t : DiskState) : Type 0 where
+    pub whole : has_word_per_step seed script told ≡ true
+    pub printed : now ≡ with_more given (text_of seed (steps_of seed script told))
+    pub on_disk : OnDisk seed opening (deeds_of seed script told) s t
 
-  pub script-broke : (script : List ℕ) (lines slice : List Line) (words told : List DiskWord) (given now : Option (List ℕ)) → lines_of script ≡ Some lines → slice ≡ lines → words ≡ []
-      → BrokeOff seed ready_opening (play seed slice) words told given now → GivesFront given now (text_of seed (steps_of seed script told))
-  script-broke script lines slice words told given now is same none broke =
-      let from_words = λ (w : List DiskWord). BrokeOff seed ready_opening (play seed lines) w told given now in
-      let from_lines = λ (l : List Line). BrokeOff seed ready_opening (play seed l) words told given now in
-      subst (λ (acts : List Act). GivesFront given now (text_of seed acts)) (sym (steps_of-lines script lines told is)) (front-broke seed lines told given now (subst from_words none (subst from_lines same broke)))
+  pub script-ran : (script : List ℕ) (lines slice : List Line) (pad : PadState) (words told : List DiskWord) (given now : Option (List ℕ)) (s t : DiskState) → lines_of script ≡ Some lines → slice ≡ lines → words ≡ []
+      → Ran seed opening (play seed slice) (play seed []) pad words told given now s t → IsWhole script told given now s t
+  script-ran script lines slice pad words told given now s t is same none ran =
+      let from_words = λ (w : List DiskWord). Ran seed opening (play seed lines) (play seed []) pad w told given now s t in
+      let from_lines = λ (l : List Line). Ran seed opening (play seed l) (play seed []) pad words told given now s t in
+      let done = finished-ran seed lines pad told given now s t (subst from_words none (subst from_lines same ran)) in
+      let deeds : (play seed lines opening told).deeds ≡ deeds_of seed script told = sym (deeds_of-lines script lines told is) in
+      record {
+        whole = has_word-lines script lines told is ∙ done.whole;
+        printed = done.printed ∙ ap (λ (all : List Deed). with_more given (text_of seed (acts_in all))) deeds;
+        on_disk = subst (λ (all : List Deed). OnDisk seed opening all s t) deeds done.on_disk;
+      }
+
+  broke-whole : (script : List ℕ) (lines slice : List Line) (words told : List DiskWord) (given now : Option (List ℕ)) (s t : DiskState) → slice ≡ lines → words ≡ []
+      → BrokeOff seed opening (play seed slice) words told given now s t → BrokeOff seed opening (play seed lines) [] told given now s t
+  broke-whole script lines slice words told given now s t same none broke =
+      let from_words = λ (w : List DiskWord). BrokeOff seed opening (play seed lines) w told given now s t in
+      let from_lines = λ (l : List Line). BrokeOff seed opening (play seed l) words told given now s t in
+      subst from_words none (subst from_lines same broke)
+
+  script-broke : (script : List ℕ) (lines : List Line) (told : List DiskWord) (given now : Option (List ℕ)) (s t : DiskState) → lines_of script ≡ Some lines
+      → BrokeOff seed opening (play seed lines) [] told given now s t → GivesFront given now (text_of seed (steps_of seed script told))
+  script-broke script lines told given now s t is broke =
+      subst (λ (deeds : List Deed). GivesFront given now (text_of seed (acts_in deeds))) (sym (deeds_of-lines script lines told is)) (front-broke seed lines told given now s t broke)
 
   -- however the run went, a front of the text was given
-  pub script-front : (script : List ℕ) (lines slice : List Line) (before kept : Kept) (words told answered : List DiskWord) (given now : Option (List ℕ)) (fault : Option Fault) → StandsFor before seed ready_opening → lines_of script ≡ Some lines → slice ≡ lines → words ≡ [] → answered ≡ told
-      → IfNone fault ((s : List ℕ) (state : Flat) → StandsFor before s state → Ran s state (play s slice) (play s []) kept words told given now)
-      → OnSome fault ((s : List ℕ) (state : Flat) → StandsFor before s state → BrokeOff s state (play s slice) words told given now)
+  pub script-front : (script : List ℕ) (lines slice : List Line) (before pad : PadState) (words told answered : List DiskWord) (given now : Option (List ℕ)) (s t : DiskState) (fault : Option Fault) → StandsFor before seed opening → lines_of script ≡ Some lines → slice ≡ lines → words ≡ [] → answered ≡ told
+      → IfNone fault ((s0 : List ℕ) (state : Flat) → StandsFor before s0 state → Ran s0 state (play s0 slice) (play s0 []) pad words told given now s t)
+      → OnSome fault ((s0 : List ℕ) (state : Flat) → StandsFor before s0 state → BrokeOff s0 state (play s0 slice) words told given now s t)
       → GivesFront given now (text_of seed (steps_of seed script answered))
-  script-front script lines slice before kept words told answered given now None stands is same none shown ran broke =
-      rw shown (front-whole given now (text_of seed (steps_of seed script told)) (script-ran script lines slice kept words told given now is same none (ran seed ready_opening stands)).1)
-  script-front script lines slice before kept words told answered given now (Some fault) stands is same none shown ran broke =
-      rw shown (script-broke script lines slice words told given now is same none (broke seed ready_opening stands))
+  script-front script lines slice before pad words told answered given now s t None stands is same none shown ran broke =
+      rw shown (front-whole given now (text_of seed (steps_of seed script told)) (script-ran script lines slice pad words told given now s t is same none (ran seed opening stands)).printed)
+  script-front script lines slice before pad words told answered given now s t (Some fault) stands is same none shown ran broke =
+      rw shown (script-broke script lines told given now s t is (broke-whole script lines slice words told given now s t same none (broke seed opening stands)))
 
-  steps_of-same : (script text : List ℕ) (words : List DiskWord) → lines_of text ≡ lines_of script → steps_of seed text words ≡ steps_of seed script words
-  unfolding steps_of
-  steps_of-same script text words same = ap (λ (lines : Option (List Line)). (play_lines seed lines words).acts) same
+  deeds_of-same : (script text : List ℕ) (words : List DiskWord) → lines_of text ≡ lines_of script → deeds_of seed text words ≡ deeds_of seed script words
+  unfolding deeds_of
+  deeds_of-same script text words same = ap (λ (lines : Option (List Line)). (play_lines seed lines words).deeds) same
 
   has_word-same : (script text : List ℕ) (words : List DiskWord) → lines_of text ≡ lines_of script → has_word_per_step seed text words ≡ has_word_per_step seed script words
   unfolding has_word_per_step
   has_word-same script text words same = ap (λ (lines : Option (List Line)). (play_lines seed lines words).whole) same
+
+-- ---- the disk
+
+broke-disk : (script : List ℕ) (lines : List Line) (told : List DiskWord) (given now : Option (List ℕ)) (s t : DiskState) → lines_of script ≡ Some lines
+    → BrokeOff zero_seed opening (play zero_seed lines) [] told given now s t → Unloaded s t → RunsOnDisk (deeds_of zero_seed script told) s t
+broke-disk script lines told given now s t is broke unloaded =
+    runs-on (deeds_of zero_seed script told) broke.done broke.left s t
+    (deeds_of-lines zero_seed script lines told is ∙ ap (λ (words : List DiskWord). (play zero_seed lines opening words).deeds) broke.told_more ∙ broke.parts)
+    broke.armings unloaded broke.on_disk
+
+-- however the run went, the disk has what the deeds did
+pub script-disk : (script : List ℕ) (lines slice : List Line) (before pad : PadState) (words told answered : List DiskWord) (given now : Option (List ℕ)) (s t : DiskState) (fault : Option Fault) → StandsFor before zero_seed opening → lines_of script ≡ Some lines → slice ≡ lines → words ≡ []
+    → answered ≡ told → Unloaded s t
+    → IfNone fault ((s0 : List ℕ) (state : Flat) → StandsFor before s0 state → Ran s0 state (play s0 slice) (play s0 []) pad words told given now s t)
+    → OnSome fault ((s0 : List ℕ) (state : Flat) → StandsFor before s0 state → BrokeOff s0 state (play s0 slice) words told given now s t)
+    → RunsOnDisk (deeds_of zero_seed script answered) s t
+script-disk script lines slice before pad words told answered given now s t None stands is same none shown unloaded ran broke =
+    rw shown (runs-on (deeds_of zero_seed script told) (deeds_of zero_seed script told) [] s t (sym (append-nil (deeds_of zero_seed script told))) refl unloaded
+    (script-ran zero_seed script lines slice pad words told given now s t is same none (ran zero_seed opening stands)).on_disk)
+script-disk script lines slice before pad words told answered given now s t (Some fault) stands is same none shown unloaded ran broke =
+    rw shown (broke-disk script lines told given now s t is (broke-whole zero_seed script lines slice words told given now s t same none (broke zero_seed opening stands)) unloaded)
+
+-- without a word no step of a script is played
+wordless-lines : (found : Option (List Line)) → acts_in (play_lines zero_seed found []).deeds ≡ []
+wordless-lines None = refl
+wordless-lines (Some lines) = wordless-play zero_seed lines opening
+
+wordless-script : (script : List ℕ) (words : List DiskWord) → words ≡ [] → acts_in (deeds_of zero_seed script words) ≡ []
+unfolding deeds_of
+wordless-script script words none = rw none (wordless-lines (lines_of script))
+
+-- where nothing was run the disk is as it was
+pub nothing-run : (words : List DiskWord) (s : DiskState) → words ≡ [] → Unloaded s s → OnDisk zero_seed opening [] s s → (script : List ℕ) → RunsOnDisk (deeds_of zero_seed script words) s s
+nothing-run words s none unloaded nothing script = runs-on (deeds_of zero_seed script words) [] (deeds_of zero_seed script words) s s refl (wordless-script script words none) unloaded nothing
+
+pub nothing-read : (before : Option (List ℕ)) (words : List DiskWord) (s : DiskState) → words ≡ [] → Unloaded s s → OnDisk zero_seed opening [] s s → IfSome before (λ script. RunsOnDisk (deeds_of zero_seed script words) s s)
+nothing-read None words s none unloaded nothing = tt
+nothing-read (Some script) words s none unloaded nothing = nothing-run words s none unloaded nothing script
 
 -- a text that is too long has no lines
 lines_of-long : (script : List ℕ) → 1048576 < length script → lines_of script ≡ None
@@ -91,9 +147,12 @@ pub read-words : (before after : Option (List ℕ)) (text : List ℕ) (words : L
 read-words None after text words read whole = tt
 read-words (Some bytes) after text words read whole = sym (has_word-same zero_seed bytes text words (lines_of-read bytes text after read)) ∙ whole
 
+pub read-deeds : (before after : Option (List ℕ)) (text : List ℕ) (words : List DiskWord) (P : List Deed → Type 0) → IsRead before after text → P (deeds_of zero_seed text words) → IfSome before (λ bytes. P (deeds_of zero_seed bytes words))
+read-deeds None after text words P read fact = tt
+read-deeds (Some bytes) after text words P read fact = subst P (deeds_of-same zero_seed bytes text words (lines_of-read bytes text after read)) fact
+
 pub read-steps : (before after : Option (List ℕ)) (text : List ℕ) (words : List DiskWord) (P : List Act → Type 0) → IsRead before after text → P (steps_of zero_seed text words) → IfSome before (λ bytes. P (steps_of zero_seed bytes words))
-read-steps None after text words P read fact = tt
-read-steps (Some bytes) after text words P read fact = subst P (steps_of-same zero_seed bytes text words (lines_of-read bytes text after read)) fact
+read-steps before after text words P = read-deeds before after text words (λ deeds. P (acts_in deeds))
 
 some-lines : (text : List ℕ) (found : Option (List Line)) → lines_of text ≡ found → IsSome found → length text ≤ 1048576
 some-lines text None is some = absurd (no-lines some)

@@ -1,6 +1,7 @@
 //! Replays a script of the pad and prints its transcript.
 #![tactic(auto)]
 
+mod command_line;
 mod cutting;
 mod reading;
 mod running;
@@ -8,13 +9,14 @@ mod running;
 mod tests;
 mod top;
 
+use crate::command_line::store_path;
 use crate::top::run_pinpad;
-use disk_core::{Counted, StdSink, StdSource};
+use disk_core::{ArmDisk, Counted, FileDisk, MemDisk, OpenFault, StdSink, StdSource};
 use std::process::ExitCode;
 use std::{env, io};
 
 /// What is printed on standard error where the words are no form.
-const USAGE: &str = "usage: pinpad_cli replay";
+const USAGE: &str = "usage: pinpad_cli replay [store PATH]";
 
 /// The words of the command line without the program's name. A word that is no text is of no form.
 fn command_words(rt: &HostRuntime) -> io::Result<Vec<String>> {
@@ -31,9 +33,24 @@ fn main(rt: HostRuntime) -> ExitCode {
         Err(fault) if fault.kind() == io::ErrorKind::OutOfMemory => return ExitCode::from(5),
         Err(_) => Vec::new(rt.alloc()),
     };
-    let mut source = StdSource::new(&rt);
-    let mut sink = Counted::new(StdSink::new(&rt));
-    let ended = run_pinpad(rt.alloc(), words.as_slice(), &mut source, &mut sink);
+    match store_path(words.as_slice()) {
+        None => replay(&rt, words.as_slice(), &mut MemDisk::new()),
+        Some(path) => match FileDisk::on_path(&rt, path) {
+            Ok(mut disk) => replay(&rt, words.as_slice(), &mut disk),
+            Err(OpenFault::NoMemory) => ExitCode::from(5),
+            Err(OpenFault::Failed) => {
+                let _ = eprintln!(rt; "store fault");
+                ExitCode::from(8)
+            }
+        },
+    }
+}
+
+// Replays the script of standard input over this disk, and prints its transcript.
+fn replay<D: ArmDisk>(rt: &HostRuntime, words: &[String], disk: &mut D) -> ExitCode {
+    let mut source = StdSource::new(rt);
+    let mut sink = Counted::new(StdSink::new(rt));
+    let ended = run_pinpad(rt.alloc(), words, &mut source, &mut sink, disk);
     if ended.status == 2 {
         let _ = eprintln!(rt; "{USAGE}");
     }

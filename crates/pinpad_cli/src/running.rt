@@ -5,13 +5,16 @@ ghost use Rattle.disk_core.specs.CountedSinks.{counted_given, counted_faults};
 ghost use Rattle.flat_machine.specs.Machine.{next_work};
 ghost use Rattle.flat_machine.specs.State.{Flat, is_off};
 ghost use Rattle.flat_machine.specs.RequestFacts.{draws, work_left};
+ghost use Rattle.pad_machine.specs.Runs.{PadIsTied};
 ghost use Rattle.pad_machine.specs.Stands.{StandsFor};
 ghost use Rattle.pad_steps.specs.Today.{is_taken_today};
 ghost use Rattle.pinpad_cli.specs.Cuts.{IsSpelled};
 ghost use Rattle.pinpad_cli.specs.Parts.{BrokeOff, PlaysFront, Ran, Took};
-ghost use Rattle.pinpad_cli.specs.Runs.{Player, auto_then, is_over, line_then, play, step_then};
+ghost use Rattle.pinpad_cli.specs.Runs.{Player, Wordless, auto_then, is_over, line_then, play, step_then};
 
-use disk_core::{Counted, Sink};
+use disk_core::{ArmDisk, Counted, Sink};
+use flat_machine::laws::disk_runs::{disk_runs_join, key_layout_tells_apart};
+use local_check::StandardWork;
 use pad_machine::Pad;
 use pad_steps::{DiskWord, Outs, Step};
 use script_lang::Line;
@@ -34,28 +37,33 @@ pub struct Break {
     pub taken: bool,
 }
 
-/// Takes a step, prints it and keeps its word.
-pub fn run_step<K: Sink>(
+/// Takes a step over the disk, prints it and keeps its word.
+pub fn run_step<K: Sink, D: ArmDisk>(
     alloc: Global,
-    pad: &mut Pad,
+    pad: &mut Pad<StandardWork>,
+    disk: &mut D,
     step: &Step,
     words: &mut Vec<DiskWord>,
     sink: &mut Counted<K>,
 ) -> Result<(), Break>
     requires formed { IsTrue (is_taken_today step.now) }
-    requires ids { length pad.old.shared.requests < 2 ^ 32 - 2 }
+    requires ids { length pad.old.kept.shared.requests < 2 ^ 32 - 2 }
+    requires tied { PadIsTied pad.old (D.state disk.old) }
+    ensures tied { OnOk result (PadIsTied pad.new (D.state disk.new)) }
     ensures ran { OnOk result ((seed : List ℕ) (state : Flat) (rest : Player) → StandsFor pad.old seed state →
-        Ran seed state (step_then seed step.now rest) rest pad.new words.old.items words.new.items (counted_given K.given sink.old) (counted_given K.given sink.new)) }
-    ensures broke { OnErr result ((seed : List ℕ) (state : Flat) (rest : Player) → StandsFor pad.old seed state →
-        BrokeOff seed state (step_then seed step.now rest) words.old.items words.new.items (counted_given K.given sink.old) (counted_given K.given sink.new)) }
+        Ran seed state (step_then seed step.now rest) rest pad.new words.old.items words.new.items (counted_given K.given sink.old) (counted_given K.given sink.new) (D.state disk.old) (D.state disk.new)) }
+    ensures broke { OnErr result ((seed : List ℕ) (state : Flat) (rest : Player) → Wordless rest → StandsFor pad.old seed state →
+        BrokeOff seed state (step_then seed step.now rest) words.old.items words.new.items (counted_given K.given sink.old) (counted_given K.given sink.new) (D.state disk.old) (D.state disk.new)) }
     ensures later { counted_faults K.faults sink.old ≤ counted_faults K.faults sink.new }
     ensures cause { IfErr result (λ stop.
         stop.fault ≡ Fault.Failed → Rose (counted_faults K.faults sink.old) (counted_faults K.faults sink.new)) }
     ensures taken { IfErr result (λ stop. stop.taken ≡ true → (seed : List ℕ) (state : Flat) (rest : Player) → StandsFor pad.old seed state →
-        Took seed state (step_then seed step.now rest) rest pad.new words.old.items words.new.items) }
-    ensures less { OnOk result (is_off pad.old.shared.device ≡ false → next_work pad.old.shared ≡ Some step.now → work_left pad.new.shared.requests < work_left pad.old.shared.requests) }
-    ensures ids { OnOk result (length pad.new.shared.requests ≤ length pad.old.shared.requests + draws step.now) }
+        Took seed state (step_then seed step.now rest) rest pad.new words.old.items words.new.items (D.state disk.old) (D.state disk.new)) }
+    ensures less { OnOk result (is_off pad.old.kept.shared.device ≡ false → next_work pad.old.kept.shared ≡ Some step.now → work_left pad.new.kept.shared.requests < work_left pad.old.kept.shared.requests) }
+    ensures ids { OnOk result (length pad.new.kept.shared.requests ≤ length pad.old.kept.shared.requests + draws step.now) }
 {
+    disk_runs_join::<D>();
+    key_layout_tells_apart();
     let is_masked = pad.is_masked(step);
     let Ok(mut outs) = Outs::new(alloc) else {
         return Err(not_taken());
@@ -63,10 +71,18 @@ pub fn run_step<K: Sink>(
     let Ok(()) = words.reserve(1) else {
         return Err(not_taken());
     };
-    let Ok(stepped) = pad.step(step, &mut outs) else {
+    let Ok(stepped) = pad.step(disk, step, &mut outs) else {
         return Err(not_taken());
     };
-    let printed = print_step(alloc, step, is_masked, &stepped.word, None, &outs, sink);
+    let printed = print_step(
+        alloc,
+        step,
+        is_masked,
+        &stepped.word,
+        stepped.fate,
+        &outs,
+        sink,
+    );
     words.push_reserved(stepped.word);
     match printed {
         Ok(()) => Ok(()),
@@ -93,26 +109,30 @@ fn not_taken() -> Break
 }
 
 /// Takes the steps that are due, until none is.
-pub fn run_auto<K: Sink>(
+pub fn run_auto<K: Sink, D: ArmDisk>(
     alloc: Global,
-    pad: &mut Pad,
+    pad: &mut Pad<StandardWork>,
+    disk: &mut D,
     words: &mut Vec<DiskWord>,
     sink: &mut Counted<K>,
 ) -> Result<(), Break>
-    requires ids { length pad.old.shared.requests < 2 ^ 32 - 2 }
+    requires ids { length pad.old.kept.shared.requests < 2 ^ 32 - 2 }
+    requires tied { PadIsTied pad.old (D.state disk.old) }
+    ensures tied { OnOk result (PadIsTied pad.new (D.state disk.new)) }
     ensures ran { OnOk result ((seed : List ℕ) (state : Flat) (rest : Player) → StandsFor pad.old seed state →
-        Ran seed state (auto_then seed rest) rest pad.new words.old.items words.new.items (counted_given K.given sink.old) (counted_given K.given sink.new)) }
-    ensures broke { OnErr result ((seed : List ℕ) (state : Flat) (rest : Player) → StandsFor pad.old seed state →
-        BrokeOff seed state (auto_then seed rest) words.old.items words.new.items (counted_given K.given sink.old) (counted_given K.given sink.new)) }
+        Ran seed state (auto_then seed rest) rest pad.new words.old.items words.new.items (counted_given K.given sink.old) (counted_given K.given sink.new) (D.state disk.old) (D.state disk.new)) }
+    ensures broke { OnErr result ((seed : List ℕ) (state : Flat) (rest : Player) → Wordless rest → StandsFor pad.old seed state →
+        BrokeOff seed state (auto_then seed rest) words.old.items words.new.items (counted_given K.given sink.old) (counted_given K.given sink.new) (D.state disk.old) (D.state disk.new)) }
     ensures later { counted_faults K.faults sink.old ≤ counted_faults K.faults sink.new }
     ensures cause { IfErr result (λ stop.
         stop.fault ≡ Fault.Failed → Rose (counted_faults K.faults sink.old) (counted_faults K.faults sink.new)) }
     ensures taken { IfErr result (λ stop. stop.taken ≡ true → (seed : List ℕ) (state : Flat) (rest : Player) → StandsFor pad.old seed state →
-        Took seed state (auto_then seed rest) (auto_then seed rest) pad.new words.old.items words.new.items) }
-    ensures ids { OnOk result (length pad.new.shared.requests ≤ length pad.old.shared.requests) }
+        Took seed state (auto_then seed rest) (auto_then seed rest) pad.new words.old.items words.new.items (D.state disk.old) (D.state disk.new)) }
+    ensures ids { OnOk result (length pad.new.kept.shared.requests ≤ length pad.old.kept.shared.requests) }
 {
+    disk_runs_join::<D>();
     while let Some(step) = pad.next_work() {
-        match run_step(alloc, pad, &step, words, sink) {
+        match run_step(alloc, pad, disk, &step, words, sink) {
             Ok(()) => {}
             Err(stop) => return Err(stop),
         }
@@ -120,30 +140,38 @@ pub fn run_auto<K: Sink>(
     Ok(())
 }
 
-/// Runs a line.
-pub fn run_line<K: Sink>(
+/// Runs a line: steps, or a call that is armed.
+pub fn run_line<K: Sink, D: ArmDisk>(
     alloc: Global,
-    pad: &mut Pad,
+    pad: &mut Pad<StandardWork>,
+    disk: &mut D,
     line: &Line,
     words: &mut Vec<DiskWord>,
     sink: &mut Counted<K>,
 ) -> Result<(), Break>
     requires spelled { IsSpelled line.now }
-    requires ids { length pad.old.shared.requests < 2 ^ 32 - 2 }
+    requires ids { length pad.old.kept.shared.requests < 2 ^ 32 - 2 }
+    requires tied { PadIsTied pad.old (D.state disk.old) }
+    ensures tied { OnOk result (PadIsTied pad.new (D.state disk.new)) }
     ensures ran { OnOk result ((seed : List ℕ) (state : Flat) (rest : Player) → StandsFor pad.old seed state →
-        Ran seed state (line_then seed line.now rest) rest pad.new words.old.items words.new.items (counted_given K.given sink.old) (counted_given K.given sink.new)) }
-    ensures broke { OnErr result ((seed : List ℕ) (state : Flat) (rest : Player) → StandsFor pad.old seed state →
-        BrokeOff seed state (line_then seed line.now rest) words.old.items words.new.items (counted_given K.given sink.old) (counted_given K.given sink.new)) }
+        Ran seed state (line_then seed line.now rest) rest pad.new words.old.items words.new.items (counted_given K.given sink.old) (counted_given K.given sink.new) (D.state disk.old) (D.state disk.new)) }
+    ensures broke { OnErr result ((seed : List ℕ) (state : Flat) (rest : Player) → Wordless rest → StandsFor pad.old seed state →
+        BrokeOff seed state (line_then seed line.now rest) words.old.items words.new.items (counted_given K.given sink.old) (counted_given K.given sink.new) (D.state disk.old) (D.state disk.new)) }
     ensures later { counted_faults K.faults sink.old ≤ counted_faults K.faults sink.new }
     ensures cause { IfErr result (λ stop.
         stop.fault ≡ Fault.Failed → Rose (counted_faults K.faults sink.old) (counted_faults K.faults sink.new)) }
-    ensures taken { IfErr result (λ stop. stop.taken ≡ true → is_over line.now pad.new.shared ≡ true → (seed : List ℕ) (state : Flat) (rest : Player) → StandsFor pad.old seed state →
-        Took seed state (line_then seed line.now rest) rest pad.new words.old.items words.new.items) }
-    ensures ids { OnOk result (length pad.new.shared.requests ≤ length pad.old.shared.requests + 1) }
+    ensures taken { IfErr result (λ stop. stop.taken ≡ true → is_over line.now pad.new.kept.shared ≡ true → (seed : List ℕ) (state : Flat) (rest : Player) → StandsFor pad.old seed state →
+        Took seed state (line_then seed line.now rest) rest pad.new words.old.items words.new.items (D.state disk.old) (D.state disk.new)) }
+    ensures ids { OnOk result (length pad.new.kept.shared.requests ≤ length pad.old.kept.shared.requests + 1) }
 {
+    disk_runs_join::<D>();
     match line {
-        Line::Auto => run_auto(alloc, pad, words, sink),
-        Line::Do(step) => run_step(alloc, pad, step, words, sink),
+        Line::Auto => run_auto(alloc, pad, disk, words, sink),
+        Line::Do(step) => run_step(alloc, pad, disk, step, words, sink),
+        Line::Arm(call, strike) => {
+            disk.arm(*call, *strike);
+            Ok(())
+        }
     }
 }
 
@@ -155,20 +183,22 @@ pub struct Course {
 }
 
 /// Runs all the lines.
-pub fn run_lines<K: Sink>(
+pub fn run_lines<K: Sink, D: ArmDisk>(
     alloc: Global,
-    pad: &mut Pad,
+    pad: &mut Pad<StandardWork>,
+    disk: &mut D,
     lines: &[Line],
     words: &mut Vec<DiskWord>,
     sink: &mut Counted<K>,
 ) -> Course
     requires spelled { All IsSpelled lines.now }
-    requires fresh { pad.old.shared.requests ≡ [] }
+    requires fresh { pad.old.kept.shared.requests ≡ [] }
+    requires tied { PadIsTied pad.old (D.state disk.old) }
     requires few { length lines.now ≤ 1048576 }
     ensures ran { IfNone result.fault ((seed : List ℕ) (state : Flat) → StandsFor pad.old seed state →
-        Ran seed state (play seed lines.now) (play seed []) pad.new words.old.items words.new.items (counted_given K.given sink.old) (counted_given K.given sink.new)) }
+        Ran seed state (play seed lines.now) (play seed []) pad.new words.old.items words.new.items (counted_given K.given sink.old) (counted_given K.given sink.new) (D.state disk.old) (D.state disk.new)) }
     ensures broke { OnSome result.fault ((seed : List ℕ) (state : Flat) → StandsFor pad.old seed state →
-        BrokeOff seed state (play seed lines.now) words.old.items words.new.items (counted_given K.given sink.old) (counted_given K.given sink.new)) }
+        BrokeOff seed state (play seed lines.now) words.old.items words.new.items (counted_given K.given sink.old) (counted_given K.given sink.new) (D.state disk.old) (D.state disk.new)) }
     ensures lines { result.lines ≤ length lines.now }
     ensures front { (seed : List ℕ) (state : Flat) →
         StandsFor pad.old seed state →
@@ -178,9 +208,10 @@ pub fn run_lines<K: Sink>(
     ensures cause { result.fault ≡ Some Fault.Failed →
         Rose (counted_faults K.faults sink.old) (counted_faults K.faults sink.new) }
 {
+    disk_runs_join::<D>();
     let mut count = 0;
     for line in lines {
-        match run_line(alloc, pad, line, words, sink) {
+        match run_line(alloc, pad, disk, line, words, sink) {
             Ok(()) => count += 1,
             Err(stop) => {
                 if stop.taken && is_run(pad, line) {
@@ -200,11 +231,11 @@ pub fn run_lines<K: Sink>(
 }
 
 // Whether all steps of the line that was begun are taken.
-fn is_run(pad: &Pad, line: &Line) -> bool
-    ensures { result ≡ is_over line.now pad.now.shared }
+fn is_run(pad: &Pad<StandardWork>, line: &Line) -> bool
+    ensures { result ≡ is_over line.now pad.now.kept.shared }
 {
     match line {
         Line::Auto => pad.next_work().is_none(),
-        Line::Do(_) => true,
+        Line::Do(_) | Line::Arm(_, _) => true,
     }
 }

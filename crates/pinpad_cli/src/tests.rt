@@ -1,8 +1,10 @@
 //! Whole runs, and what no clause says: that memory suffices.
 mod commands;
+mod power;
 
+use crate::command_line::store_path;
 use crate::top::run_pinpad;
-use disk_core::{Calls, Counted, MemSink, MemSource, Source};
+use disk_core::{Calls, Counted, MemDisk, MemSink, MemSource, Source};
 use pad_steps::{Command, DiskWord, ImportRequest, ImportSource, Out, Outs, Told, Verify, Words};
 use pad_words::{KeyName, Octets, Session};
 use std::alloc::Global;
@@ -54,6 +56,7 @@ const USAGE: Case<'static, 'static> = Case {
 };
 
 const ENTRY_1234: &[u8] = b"\
+boot
 open 1
 listen 1 execute
 submit 1 0 getpin 4 16 hold 000F03FF00000000 0003000000000000
@@ -66,6 +69,7 @@ press enter
 ";
 
 const ENTRY_9876: &[u8] = b"\
+boot
 open 1
 listen 1 execute
 submit 1 0 getpin 4 16 hold 000F03FF00000000 0003000000000000
@@ -79,6 +83,7 @@ press enter
 
 // Of both entries, since no digit is printed.
 const ENTRY_PRINTED: &[u8] = b"\
+> boot / loaded 0 first
 > open 1
 < 1 told open
 > listen 1 execute
@@ -102,6 +107,7 @@ const ENTRY_PRINTED: &[u8] = b"\
 
 // Nothing but Open does anything before a session is open.
 const NOT_OPEN: &[u8] = b"\
+boot
 listen 1 execute
 submit 1 0 getpin 4 16 hold 000F03FF00000000 0003000000000000
 auto
@@ -111,6 +117,7 @@ open 1
 ";
 
 const NOT_OPEN_PRINTED: &[u8] = b"\
+> boot / loaded 0 first
 > listen 1 execute
 < 1 told NOSESSION
 > submit 1 0 getpin 4 16 hold 000F03FF00000000 0003000000000000
@@ -124,6 +131,7 @@ const NOT_OPEN_PRINTED: &[u8] = b"\
 
 // An entry of 17 digits, cleared, corrected, too short for ENTER, and ended by CANCEL.
 const CANCELED: &[u8] = b"\
+boot
 open 1
 listen 1 execute
 submit 1 0 getpin 4 16 hold 000F03FF00000000 0003000000000000
@@ -158,6 +166,7 @@ press 1
 ";
 
 const CANCELED_PRINTED: &[u8] = b"\
+> boot / loaded 0 first
 > open 1
 < 1 told open
 > listen 1 execute
@@ -222,6 +231,7 @@ const CANCELED_PRINTED: &[u8] = b"\
 
 // Two entries: one corrected and ended by ENTER, and a second that waits until the first has ended. No session listens.
 const TWO_ENTRIES: &[u8] = b"\
+boot
 open 1
 submit 1 0 getpin 4 16 hold 000F03FF00000000 0003000000000000
 submit 1 0 getpin 4 16 hold 000F03FF00000000 0003000000000000
@@ -240,6 +250,7 @@ auto
 ";
 
 const TWO_ENTRIES_PRINTED: &[u8] = b"\
+> boot / loaded 0 first
 > open 1
 < 1 told open
 > submit 1 0 getpin 4 16 hold 000F03FF00000000 0003000000000000
@@ -262,6 +273,7 @@ const TWO_ENTRIES_PRINTED: &[u8] = b"\
 ";
 
 const THREE_OPENS_PRINTED: &[u8] = b"\
+> boot / loaded 0 first
 > open 1
 < 1 told open
 > open 1
@@ -281,13 +293,16 @@ fn compare(rt: &impl Abort, alloc: Global, case: &Case) -> Result<(), Fail> {
     let sink_fails = Calls::of(case.sink_fails).ok_or("at most 32 calls")?;
     let mut source = MemSource::new(Octets::copy(alloc, case.script)?, 100, source_fails);
     let mut sink = Counted::new(MemSink::new(alloc, case.room, sink_fails)?);
-    let ended = run_pinpad(alloc, words.as_slice(), &mut source, &mut sink);
+    let ended = run_pinpad(
+        alloc,
+        words.as_slice(),
+        &mut source,
+        &mut sink,
+        &mut MemDisk::new(),
+    );
     assert_eq!(rt; ended.status, case.status, "{name}: status");
     assert_eq!(rt; ended.line, case.line, "{name}: line");
-    let steps = ended.words.items();
-    assert_eq!(rt; steps.len(), case.steps, "{name}: steps");
-    let quiet = steps.iter().all(|word| matches!(word, DiskWord::Quiet));
-    assert!(rt; quiet, "{name}: words");
+    assert_eq!(rt; ended.words.items().len(), case.steps, "{name}: steps");
     assert!(rt; sink.inner().bytes() == case.printed, "{name}: printed");
     let left = source.take(&mut [0]);
     assert_eq!(rt; left == Ok(0), case.read, "{name}: read");
@@ -301,40 +316,40 @@ fn scripts_and_faults(rt: HostRuntime) -> Result<(), Fail> {
         Case {
             name: "PIN 1234",
             script: ENTRY_1234,
-            line: 9,
-            steps: 9,
+            line: 10,
+            steps: 10,
             printed: ENTRY_PRINTED,
             ..WHOLE
         },
         Case {
             name: "PIN 9876",
             script: ENTRY_9876,
-            line: 9,
-            steps: 9,
+            line: 10,
+            steps: 10,
             printed: ENTRY_PRINTED,
             ..WHOLE
         },
         Case {
             name: "no session is open, and then one is",
             script: NOT_OPEN,
-            line: 6,
-            steps: 5,
+            line: 7,
+            steps: 6,
             printed: NOT_OPEN_PRINTED,
             ..WHOLE
         },
         Case {
             name: "17 digits, corrections and CANCEL",
             script: CANCELED,
-            line: 31,
-            steps: 31,
+            line: 32,
+            steps: 32,
             printed: CANCELED_PRINTED,
             ..WHOLE
         },
         Case {
             name: "two entries",
             script: TWO_ENTRIES,
-            line: 15,
-            steps: 14,
+            line: 16,
+            steps: 15,
             printed: TWO_ENTRIES_PRINTED,
             ..WHOLE
         },
@@ -347,6 +362,31 @@ fn scripts_and_faults(rt: HostRuntime) -> Result<(), Fail> {
             name: "a word too many",
             words: &["replay", "x"],
             ..USAGE
+        },
+        Case {
+            name: "a path is lacking",
+            words: &["replay", "store"],
+            ..USAGE
+        },
+        Case {
+            name: "an empty path",
+            words: &["replay", "store", ""],
+            ..USAGE
+        },
+        Case {
+            name: "two paths",
+            words: &["replay", "store", "p", "q"],
+            ..USAGE
+        },
+        Case {
+            name: "a path without its word",
+            words: &["replay", "stored", "p"],
+            ..USAGE
+        },
+        Case {
+            name: "a path, over the disk that is handed in",
+            words: &["replay", "store", "p"],
+            ..WHOLE
         },
         Case {
             name: "a capital letter",
@@ -392,23 +432,23 @@ fn scripts_and_faults(rt: HostRuntime) -> Result<(), Fail> {
             ..WHOLE
         },
         Case {
-            name: "the second write fails",
+            name: "the third write fails",
             script: ENTRY_1234,
-            sink_fails: &[2],
+            sink_fails: &[3],
             status: 4,
-            line: 2,
-            steps: 2,
-            printed: b"> open 1\n< 1 told open\n",
+            line: 3,
+            steps: 3,
+            printed: b"> boot / loaded 0 first\n> open 1\n< 1 told open\n",
             ..WHOLE
         },
         Case {
-            name: "room for 30 bytes",
+            name: "room for 54 bytes",
             script: ENTRY_1234,
-            room: 30,
+            room: 54,
             status: 4,
-            line: 2,
-            steps: 2,
-            printed: b"> open 1\n< 1 told open\n> liste",
+            line: 3,
+            steps: 3,
+            printed: b"> boot / loaded 0 first\n> open 1\n< 1 told open\n> liste",
             ..WHOLE
         },
     ];
@@ -418,13 +458,35 @@ fn scripts_and_faults(rt: HostRuntime) -> Result<(), Fail> {
     Ok(())
 }
 
+// The path of the disk's file is the third word behind `replay store`, and there is none otherwise.
+#[test]
+fn store_paths(rt: HostRuntime) -> Result<(), Fail> {
+    let rows: [(&[&str], Option<&str>); 7] = [
+        (&["replay", "store", "disk"], Some("disk")),
+        (&["replay", "store", "store"], Some("store")),
+        (&["replay"], None),
+        (&["replay", "store"], None),
+        (&["replay", "store", ""], None),
+        (&["store", "replay", "disk"], None),
+        (&["replay", "store", "disk", "disk"], None),
+    ];
+    for (texts, path) in rows {
+        let mut words = Vec::new(rt.alloc());
+        for text in texts {
+            words.push(String::from_str(rt.alloc(), text)?)?;
+        }
+        assert!(rt; store_path(words.as_slice()) == path);
+    }
+    Ok(())
+}
+
 // 16 requests wait, and a seventeenth is refused.
 #[test]
 fn queue_fills_up(rt: HostRuntime) -> Result<(), Fail> {
     let alloc = rt.alloc();
     let line = "submit 1 0 getpin 4 16 hold 000F03FF00000000 0003000000000000";
-    let mut script = format!(in alloc; "open 1\n")?;
-    let mut printed = format!(in alloc; "> open 1\n< 1 told open\n")?;
+    let mut script = format!(in alloc; "boot\nopen 1\n")?;
+    let mut printed = format!(in alloc; "> boot / loaded 0 first\n> open 1\n< 1 told open\n")?;
     for id in 1..=16 {
         script.push_str(format!(in alloc; "{line}\n")?.as_str())?;
         printed.push_str(format!(in alloc; "> {line}\n< 1 request {id}\n")?.as_str())?;
@@ -434,8 +496,8 @@ fn queue_fills_up(rt: HostRuntime) -> Result<(), Fail> {
     let full = Case {
         name: "17 requests",
         script: script.as_bytes(),
-        line: 18,
-        steps: 18,
+        line: 19,
+        steps: 19,
         printed: printed.as_bytes(),
         ..WHOLE
     };
@@ -446,15 +508,15 @@ fn queue_fills_up(rt: HostRuntime) -> Result<(), Fail> {
 #[test]
 fn longest_script(rt: HostRuntime) -> Result<(), Fail> {
     let alloc = rt.alloc();
-    let mut script = format!(in alloc; "open 1\nopen 1\nopen 1\n")?;
-    for _ in 0..209_711 {
+    let mut script = format!(in alloc; "boot\nopen 1\nopen 1\nopen 1\n")?;
+    for _ in 0..209_710 {
         script.push_str("auto\n")?;
     }
     let longest = Case {
         name: "1,048,576 bytes",
         script: script.as_bytes(),
         line: 209_714,
-        steps: 3,
+        steps: 4,
         printed: THREE_OPENS_PRINTED,
         ..WHOLE
     };

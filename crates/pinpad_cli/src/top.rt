@@ -1,24 +1,29 @@
 // The whole of the program.
-ghost use Rattle.std.specs.Prelude.{◌≡◌, ◌≢◌, ◌≤◌, ◌↔◌, ◌⊎◌, IfNone, IfSome, IsNone, IsSome, List, None, OnSome, Some, [], false, length, take, true, ℕ};
+ghost use Rattle.std.specs.Prelude.{◌≡◌, ◌≢◌, ◌≤◌, ◌↔◌, ◌⊎◌, IfNone, IfOk, IfSome, IsNone, IsSome, List, None, OnSome, Some, [], false, length, take, true, ℕ};
 ghost use Rattle.disk_core.specs.Causes.{Rose};
 ghost use Rattle.disk_core.specs.CountedSinks.{counted_given, counted_faults};
 ghost use Rattle.disk_core.specs.Streams.{with_more, GivesFront};
+ghost use Rattle.flat_machine.specs.Deeds.{DueFrom};
 ghost use Rattle.flat_machine.specs.Machine.{Act};
-ghost use Rattle.flat_machine.specs.State.{ready_opening};
+ghost use Rattle.flat_machine.specs.State.{opening};
 ghost use Rattle.flat_machine.specs.Twins.{Twins};
-ghost use Rattle.pad_machine.specs.Stands.{set_by, zero_seed};
-ghost use Rattle.pinpad_cli.specs.CommandLine.{is_replay as is_replay_form};
-ghost use Rattle.pinpad_cli.specs.Parts.{PlaysFront};
-ghost use Rattle.pinpad_cli.specs.Runs.{has_word_per_step, line_count, steps_of, text_of};
+ghost use Rattle.pad_machine.specs.Stands.{StandsFor};
+ghost use Rattle.pinpad_cli.specs.CommandLine.{is_form as is_form_of_words};
+ghost use Rattle.pinpad_cli.specs.Parts.{PlaysFront, RunsOnDisk};
+ghost use Rattle.pinpad_cli.specs.Runs.{deeds_of, has_word_per_step, line_count, program_setting, steps_of, text_of, zero_seed};
 ghost use Rattle.pinpad_cli.specs.Script.{lines_of};
 
+use crate::command_line::is_form;
 use crate::cutting::script_lines;
 use crate::reading::read_all;
 use crate::running::{Course, Fault, run_lines};
-use disk_core::{Counted, Sink, Source};
+use disk_core::{ArmDisk, Counted, Sink, Source};
+use flat_machine::laws::disk_runs::{disk_runs_join, store_history_goes_on};
 use flat_machine::laws::twins::twins_print_alike;
+use local_check::StandardWork;
 use pad_machine::Pad;
 use pad_steps::Words;
+use pad_words::NoMemory;
 use std::alloc::Global;
 
 /// How a run ended: its status, a number of lines, and the words of its steps in order.
@@ -29,21 +34,22 @@ pub struct Ended {
     pub words: Words,
 }
 
-/// Replays the script that the source has, and gives its transcript to the sink.
+/// Replays the script that the source has over the disk, and gives its transcript to the sink. The device is off at first.
 ///
 /// The status is 0 where all was run and printed; 1 where the script is outside the grammar; 2 where the words of
-/// the command line are not `replay`; 3 where the source failed; 4 where the sink failed; 5 where memory was wanting.
+/// the command line are neither `replay` nor `replay store` and a path; 3 where the source failed; 4 where the sink failed; 5 where memory was wanting.
 /// `line` is the number of lines that were run.
-pub fn run_pinpad<S: Source, K: Sink>(
+pub fn run_pinpad<S: Source, K: Sink, D: ArmDisk>(
     alloc: Global,
     words: &[String],
     source: &mut S,
     sink: &mut Counted<K>,
+    disk: &mut D,
 ) -> Ended
     ensures statuses { result.status ≤ 5 }
 
     // Usage: exactly by the words, and nothing is read, given or run.
-    ensures usage { (result.status ≡ 2) ↔ (is_replay_form words.now ≡ false) }
+    ensures usage { (result.status ≡ 2) ↔ (is_form_of_words words.now ≡ false) }
     ensures usage_reads_nothing { result.status ≡ 2 → source.new ≡ source.old }
     ensures usage_gives_nothing { result.status ≡ 2 → sink.new ≡ sink.old }
     ensures usage_runs_nothing { result.status ≡ 2 → result.words ≡ [] }
@@ -59,13 +65,13 @@ pub fn run_pinpad<S: Source, K: Sink>(
         counted_given K.given sink.new ≡ with_more (counted_given K.given sink.old) (text_of zero_seed (steps_of zero_seed script result.words))) }
 
     // The same bytes are the text of every twin of the steps.
-    ensures twins { result.status ≡ 0 → IfSome (S.left source.old) (λ script. (twin : List Act) → Twins (set_by zero_seed) ready_opening (steps_of zero_seed script result.words) twin →
+    ensures twins { result.status ≡ 0 → IfSome (S.left source.old) (λ script. (twin : List Act) → Twins (program_setting zero_seed) opening (steps_of zero_seed script result.words) twin →
         counted_given K.given sink.new ≡ with_more (counted_given K.given sink.old) (text_of zero_seed twin)) }
 
     // In every status a front of that text was given.
     ensures front { IfSome (S.left source.old) (λ script.
         GivesFront (counted_given K.given sink.old) (counted_given K.given sink.new) (text_of zero_seed (steps_of zero_seed script result.words))) }
-    ensures twin_front { IfSome (S.left source.old) (λ script. (twin : List Act) → Twins (set_by zero_seed) ready_opening (steps_of zero_seed script result.words) twin →
+    ensures twin_front { IfSome (S.left source.old) (λ script. (twin : List Act) → Twins (program_setting zero_seed) opening (steps_of zero_seed script result.words) twin →
         GivesFront (counted_given K.given sink.old) (counted_given K.given sink.new) (text_of zero_seed twin)) }
 
     // A script outside the grammar: nothing is given, and no other status comes but by a fault of the source or want of memory.
@@ -77,8 +83,18 @@ pub fn run_pinpad<S: Source, K: Sink>(
 
     // The lines that are counted are run whole: a front of the words is one for each of their steps.
     ensures line_front { IfSome (S.left source.old) (λ script.
-        IfSome (lines_of script) (λ lines. PlaysFront zero_seed ready_opening (take result.line lines) [] result.words)) }
+        IfSome (lines_of script) (λ lines. PlaysFront zero_seed opening (take result.line lines) [] result.words)) }
     ensures line_within { IfSome (S.left source.old) (λ script. result.line ≤ line_count (lines_of script)) }
+
+    // The disk, in every status: what the steps and armings did to it that the words told play. Where all was run, each word
+    // is due by what was armed. Where nothing was run the disk is as it was.
+    ensures on_disk { IfSome (S.left source.old) (λ script.
+        RunsOnDisk (deeds_of zero_seed script result.words) (D.state disk.old) (D.state disk.new)) }
+    ensures due { result.status ≡ 0 → IfSome (S.left source.old) (λ script.
+        DueFrom (program_setting zero_seed) opening (deeds_of zero_seed script result.words) (D.state disk.old).armed (D.state disk.new).armed) }
+    ensures outside_keeps_disk { result.status ≡ 1 → disk.new ≡ disk.old }
+    ensures usage_keeps_disk { result.status ≡ 2 → disk.new ≡ disk.old }
+    ensures source_fault_keeps_disk { result.status ≡ 3 → disk.new ≡ disk.old }
 
     // Each fault has its cause, and where the source failed nothing was run.
     ensures source_fault { result.status ≡ 3 → Rose (S.faults source.old) (S.faults source.new) }
@@ -88,19 +104,26 @@ pub fn run_pinpad<S: Source, K: Sink>(
     ensures sink_fault { result.status ≡ 4 →
         Rose (counted_faults K.faults sink.old) (counted_faults K.faults sink.new) }
 {
-    if !is_replay(words) {
+    disk_runs_join::<D>();
+    store_history_goes_on::<D>();
+    if !is_form(words) {
         return stopped(alloc, 2);
     }
     twins_print_alike();
     match read_all(alloc, source) {
-        Ok(text) => run_script(alloc, text.items(), sink),
+        Ok(text) => run_script(alloc, text.items(), sink, disk),
         Err(Fault::Failed) => stopped(alloc, 3),
         Err(Fault::NoMemory) => stopped(alloc, 5),
     }
 }
 
 // Runs a script.
-fn run_script<K: Sink>(alloc: Global, script: &[u8], sink: &mut Counted<K>) -> Ended
+fn run_script<K: Sink, D: ArmDisk>(
+    alloc: Global,
+    script: &[u8],
+    sink: &mut Counted<K>,
+    disk: &mut D,
+) -> Ended
     ensures statuses { (result.status ≢ 2) × (result.status ≢ 3) × (result.status ≤ 5) }
     ensures outside { result.status ≡ 1 → lines_of script.now ≡ None }
     ensures inside { (result.status ≡ 0) ⊎ (result.status ≡ 4) → IsSome (lines_of script.now) }
@@ -110,23 +133,29 @@ fn run_script<K: Sink>(alloc: Global, script: &[u8], sink: &mut Counted<K>) -> E
     ensures lines { result.status ≡ 0 → result.line ≡ line_count (lines_of script.now) }
     ensures line_within { result.line ≤ line_count (lines_of script.now) }
     ensures line_front { IfSome (lines_of script.now) (λ lines.
-        PlaysFront zero_seed ready_opening (take result.line lines) [] result.words) }
+        PlaysFront zero_seed opening (take result.line lines) [] result.words) }
     ensures printed { result.status ≡ 0 →
         counted_given K.given sink.new ≡ with_more (counted_given K.given sink.old) (text_of zero_seed (steps_of zero_seed script.now result.words)) }
     ensures front { GivesFront (counted_given K.given sink.old) (counted_given K.given sink.new) (text_of zero_seed (steps_of zero_seed script.now result.words)) }
+    ensures on_disk { RunsOnDisk (deeds_of zero_seed script.now result.words) (D.state disk.old) (D.state disk.new) }
+    ensures due { result.status ≡ 0 →
+        DueFrom (program_setting zero_seed) opening (deeds_of zero_seed script.now result.words) (D.state disk.old).armed (D.state disk.new).armed }
+    ensures outside_keeps_disk { result.status ≡ 1 → disk.new ≡ disk.old }
     ensures cause { result.status ≡ 4 → Rose (counted_faults K.faults sink.old) (counted_faults K.faults sink.new) }
 {
+    disk_runs_join::<D>();
+    store_history_goes_on::<D>();
     let Ok(found) = script_lines(alloc, script) else {
         return stopped(alloc, 5);
     };
     let Some(lines) = found else {
         return stopped(alloc, 1);
     };
-    let Ok(mut pad) = Pad::new(alloc) else {
+    let Ok(mut pad) = new_pad(alloc) else {
         return stopped(alloc, 5);
     };
     let mut words = Vec::new(alloc);
-    let course = run_lines(alloc, &mut pad, lines.as_slice(), &mut words, sink);
+    let course = run_lines(alloc, &mut pad, disk, lines.as_slice(), &mut words, sink);
     Ended {
         status: status_of(course),
         line: course.lines,
@@ -148,14 +177,11 @@ fn status_of(course: Course) -> u8
     }
 }
 
-// The words are the one form.
-fn is_replay(words: &[String]) -> bool
-    ensures { result ≡ is_replay_form words.now }
+// The program's pad: the standard work, and a seed of 32 zero bytes.
+fn new_pad(alloc: Global) -> Result<Pad<StandardWork>, NoMemory>
+    ensures { IfOk result (λ pad. StandsFor pad zero_seed opening) }
 {
-    match words {
-        [word] => word.as_str() == "replay",
-        _ => false,
-    }
+    Pad::new(alloc, StandardWork, [0; 32])
 }
 
 // A run that ended before a line was run.

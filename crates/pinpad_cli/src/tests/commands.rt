@@ -46,7 +46,7 @@ struct Play {
 }
 
 impl Play {
-    /// Session 1 is open.
+    /// The device is on, and session 1 is open.
     fn open(alloc: Global) -> Result<Play, Fail> {
         let mut play = Play {
             alloc,
@@ -56,6 +56,7 @@ impl Play {
             steps: 0,
             requests: 0,
         };
+        play.step("boot", "boot / loaded 0 first")?;
         play.step("open 1", "open 1")?;
         play.said("told open")?;
         Ok(play)
@@ -156,7 +157,11 @@ impl Play {
 
     fn finish(&mut self, command: &str, reply: &str) -> Result<(), Fail> {
         self.submit(command)?;
-        self.taken("finish")?;
+        self.taken(if is_stored(reply) {
+            "finish / done"
+        } else {
+            "finish"
+        })?;
         self.ended(reply)
     }
 
@@ -170,6 +175,11 @@ impl Play {
             ..WHOLE
         }
     }
+}
+
+// The reply is that of a command that stored something: an import or a deletion.
+fn is_stored(reply: &str) -> bool {
+    reply == "OK" || reply.starts_with("OK key ")
 }
 
 #[test]

@@ -1,14 +1,15 @@
-use Rattle.pinpad_cli.specs.Parts.{PlaysFront}
-use Rattle.std.proofs.Common.{ap, inl, subst, sym, ℕ, ◌∙◌}
+use Rattle.pinpad_cli.specs.Parts.{PlaysFront, RunsOnDisk}
+use Rattle.std.proofs.Common.{ap, inl, refl, subst, sym, ◌∙◌}
 use Rattle.std.specs.Prelude.{IsSome, List, None, Option, ◌≡◌, ◌≤◌, IfSome, take, []}
 use Rattle.disk_core.specs.Streams.{GivesFront, with_more}
 use Rattle.flat_machine.specs.Machine.{Act}
-use Rattle.flat_machine.specs.State.{ready_opening}
+use Rattle.flat_machine.specs.Deeds.{Deed, DueFrom}
+use Rattle.flat_machine.specs.KeyLayout.{key_layout}
+use Rattle.flat_machine.specs.State.{opening}
 use Rattle.flat_machine.specs.Twins.{Twins}
-use Rattle.pad_machine.specs.Stands.{set_by, zero_seed}
 use Rattle.pad_steps.specs.Lines.{Line}
-use Rattle.pinpad_cli.proofs.TopLemmas.{read-fact, read-steps, read-to_end, read-words}
-use Rattle.pinpad_cli.specs.Runs.{line_count, text_of}
+use Rattle.pinpad_cli.proofs.TopLemmas.{nothing-read, read-deeds, read-fact, read-steps, read-to_end, read-words}
+use Rattle.pinpad_cli.specs.Runs.{line_count, program_setting, text_of, zero_seed}
 use Rattle.script_lang.specs.declared.kinds.Line.{Line as ScriptLine}
 use Rattle.transcript.specs.PrintedLines.{lines_text}
 use Rattle.pinpad_cli.proofs.top.run_pinpad.Goals as goal
@@ -29,10 +30,10 @@ returns-in-Ok-clause-printed g c = λ zero. read-steps _ _ c.in-Ok.text c.run_sc
 
 pub returns-in-Ok-clause-twins : goal.returns-in-Ok-clause-twins
 returns-in-Ok-clause-twins g c = λ zero. read-steps _ _ c.in-Ok.text c.run_script.result.words
-    (λ (acts : List Act). (b : List Act) → Twins (set_by zero_seed) ready_opening acts b → g.K.Sink.given c.run_script.new.sink.inner ≡ with_more (g.K.Sink.given c.args.sink.now.inner) (text_of zero_seed b))
+    (λ (acts : List Act). (b : List Act) → Twins (program_setting zero_seed) opening acts b → g.K.Sink.given c.run_script.new.sink.inner ≡ with_more (g.K.Sink.given c.args.sink.now.inner) (text_of zero_seed b))
     c.in-Ok.ensures.read
     (λ b twins. (rw c.items.ensures at (c.run_script.ensures.printed zero))
-    ∙ ap (λ (lines : List Line). with_more (g.K.Sink.given c.args.sink.now.inner) (lines_text lines)) (sym (c.twins_print_alike.ensures (set_by zero_seed) ready_opening _ b twins)))
+    ∙ ap (λ (lines : List Line). with_more (g.K.Sink.given c.args.sink.now.inner) (lines_text lines)) (sym (c.twins_print_alike.ensures (program_setting zero_seed) opening _ b twins)))
 
 pub returns-in-Ok-clause-front : goal.returns-in-Ok-clause-front
 returns-in-Ok-clause-front g c = read-steps _ _ c.in-Ok.text c.run_script.result.words
@@ -41,9 +42,9 @@ returns-in-Ok-clause-front g c = read-steps _ _ c.in-Ok.text c.run_script.result
 
 pub returns-in-Ok-clause-twin_front : goal.returns-in-Ok-clause-twin_front
 returns-in-Ok-clause-twin_front g c = read-steps _ _ c.in-Ok.text c.run_script.result.words
-    (λ (acts : List Act). (b : List Act) → Twins (set_by zero_seed) ready_opening acts b → GivesFront (g.K.Sink.given c.args.sink.now.inner) (g.K.Sink.given c.run_script.new.sink.inner) (text_of zero_seed b))
+    (λ (acts : List Act). (b : List Act) → Twins (program_setting zero_seed) opening acts b → GivesFront (g.K.Sink.given c.args.sink.now.inner) (g.K.Sink.given c.run_script.new.sink.inner) (text_of zero_seed b))
     c.in-Ok.ensures.read
-    (λ b twins. subst (λ (lines : List Line). GivesFront (g.K.Sink.given c.args.sink.now.inner) (g.K.Sink.given c.run_script.new.sink.inner) (lines_text lines)) (sym (c.twins_print_alike.ensures (set_by zero_seed) ready_opening _ b twins))
+    (λ b twins. subst (λ (lines : List Line). GivesFront (g.K.Sink.given c.args.sink.now.inner) (g.K.Sink.given c.run_script.new.sink.inner) (lines_text lines)) (sym (c.twins_print_alike.ensures (program_setting zero_seed) opening _ b twins))
     (rw c.items.ensures at c.run_script.ensures.front))
 
 pub returns-in-Ok-clause-outside : goal.returns-in-Ok-clause-outside
@@ -57,5 +58,20 @@ returns-in-Ok-clause-line_within g c = read-fact _ _ c.in-Ok.text (λ (lines : O
 
 pub returns-in-Ok-clause-line_front : goal.returns-in-Ok-clause-line_front
 returns-in-Ok-clause-line_front g c = read-fact _ _ c.in-Ok.text
-    (λ (found : Option (List ScriptLine)). IfSome found (λ lines. PlaysFront zero_seed ready_opening (take c.run_script.result.line lines) [] c.run_script.result.words))
+    (λ (found : Option (List ScriptLine)). IfSome found (λ lines. PlaysFront zero_seed opening (take c.run_script.result.line lines) [] c.run_script.result.words))
     c.in-Ok.ensures.read (rw c.items.ensures at c.run_script.ensures.line_front)
+
+pub returns-then-not-is_form-clause-on_disk : goal.returns-then-not-is_form-clause-on_disk
+returns-then-not-is_form-clause-on_disk g c = nothing-read (g.S.Source.left c.args.source.now) c.stopped.result.words (g.D.Disk.state c.args.disk.now) c.stopped.ensures.words (λ deeds unread on. c.store_history_goes_on.ensures.unloaded key_layout (program_setting zero_seed) opening deeds c.args.disk.now c.args.disk.now refl refl unread on) (c.disk_runs_join.ensures.none key_layout (program_setting zero_seed) opening c.args.disk.now)
+
+pub returns-in-Err-Failed-clause-on_disk : goal.returns-in-Err-Failed-clause-on_disk
+returns-in-Err-Failed-clause-on_disk g c = nothing-read (g.S.Source.left c.args.source.now) c.stopped-in-Err-Failed.result.words (g.D.Disk.state c.args.disk.now) c.stopped-in-Err-Failed.ensures.words (λ deeds unread on. c.store_history_goes_on.ensures.unloaded key_layout (program_setting zero_seed) opening deeds c.args.disk.now c.args.disk.now refl refl unread on) (c.disk_runs_join.ensures.none key_layout (program_setting zero_seed) opening c.args.disk.now)
+
+pub returns-in-Err-NoMemory-clause-on_disk : goal.returns-in-Err-NoMemory-clause-on_disk
+returns-in-Err-NoMemory-clause-on_disk g c = nothing-read (g.S.Source.left c.args.source.now) c.stopped-in-Err-NoMemory.result.words (g.D.Disk.state c.args.disk.now) c.stopped-in-Err-NoMemory.ensures.words (λ deeds unread on. c.store_history_goes_on.ensures.unloaded key_layout (program_setting zero_seed) opening deeds c.args.disk.now c.args.disk.now refl refl unread on) (c.disk_runs_join.ensures.none key_layout (program_setting zero_seed) opening c.args.disk.now)
+
+pub returns-in-Ok-clause-on_disk : goal.returns-in-Ok-clause-on_disk
+returns-in-Ok-clause-on_disk g c = read-deeds _ _ c.in-Ok.text c.run_script.result.words (λ (deeds : List Deed). RunsOnDisk deeds (g.D.Disk.state c.args.disk.now) (g.D.Disk.state c.run_script.new.disk)) c.in-Ok.ensures.read (rw c.items.ensures at c.run_script.ensures.on_disk)
+
+pub returns-in-Ok-clause-due : goal.returns-in-Ok-clause-due
+returns-in-Ok-clause-due g c = λ zero. read-deeds _ _ c.in-Ok.text c.run_script.result.words (λ (deeds : List Deed). DueFrom (program_setting zero_seed) opening deeds (g.D.Disk.state c.args.disk.now).armed (g.D.Disk.state c.run_script.new.disk).armed) c.in-Ok.ensures.read (rw c.items.ensures at (c.run_script.ensures.due zero))
