@@ -2,7 +2,7 @@
 use Rattle.disk_core.specs.DiskStates.{DiskState, EachImage}
 use Rattle.flat_machine.specs.Deeds.{Arms, CalmFrom, Deed, FitsDeeds, Takes, acts_in, cut_words, failed_words, loads_rows, off_along}
 use Rattle.flat_machine.specs.DiskRuns.{ComeFromOne, RoseBy, RunOnDisk}
-use Rattle.flat_machine.specs.DiskSteps.{is_cut, is_failed, is_loaded, switched}
+use Rattle.flat_machine.specs.DiskSteps.{ShowsKeys, is_cut, is_failed, is_loaded, switched}
 use Rattle.flat_machine.specs.KeyLayout.{key_layout}
 use Rattle.flat_machine.specs.Machine.{Act, next, run_from}
 use Rattle.flat_machine.specs.Settings.{Setting}
@@ -98,6 +98,10 @@ come-with done left s t none come = record {
   holds = λ bytes image. subst (λ (acts : List Act). HoldsFrom key_layout (program_setting zero_seed) opening (These come.first) acts bytes) (sym (acts-with done left none)) (come.holds bytes image);
 }
 
+-- each image shows the rows that are kept after these steps, or these with the slot in doubt replaced
+abbrev ShownAfter : DiskState → List Act → Type 0
+ShownAfter t acts = EachImage t (ShowsKeys key_layout (run_from (program_setting zero_seed) opening acts).shared)
+
 -- the device is not off after these steps
 abbrev IsOn : List Act → Type 0
 IsOn acts = is_off (run_from (program_setting zero_seed) opening acts).shared.device ≡ false
@@ -112,6 +116,7 @@ runs-with done left s t none unloaded on = record {
   tells = on.tells;
   unwritten = λ unread. unloaded done (sym (loads-with done left none) ∙ unread) on;
   begun = λ read. if_some-then s.content (λ _ come. come-with done left s t none come) (on.begun refl (subst IsTrue (loads-with done left none) read));
+  shows = subst (λ (acts : List Act). ShownAfter t acts) (sym (acts-with done left none)) (on.shows (if_some-all s.content (λ _ bytes image was. absurd cc)));
   calm = if_some-then s.content (λ _ calm. calm-with (program_setting zero_seed) opening done left none calm) (on.calm (if_some-all s.content (λ _ bytes image was. absurd cc)));
 }
 

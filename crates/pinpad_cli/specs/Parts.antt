@@ -3,6 +3,7 @@ use Rattle.disk_core.specs.DiskStates.{DiskState, EachImage}
 use Rattle.disk_core.specs.Streams.{GivesFront, with_more}
 use Rattle.flat_machine.specs.Deeds.{CalmFrom, Deed, FitsDeeds, acts_in, after_deeds, cut_words, failed_words, loads_rows, off_along}
 use Rattle.flat_machine.specs.DiskRuns.{ComeFromOne, RoseBy, RunOnDisk}
+use Rattle.flat_machine.specs.DiskSteps.{ShowsKeys}
 use Rattle.flat_machine.specs.KeyLayout.{key_layout}
 use Rattle.flat_machine.specs.Machine.{Act}
 use Rattle.flat_machine.specs.State.{Flat, is_off, opening}
@@ -61,5 +62,7 @@ pub record RunsOnDisk (deeds : List Deed) (s t : DiskState) : Type 0 where
   pub unwritten : loads_rows deeds ≡ false → EachImage t (λ bytes. s.image bytes)
   -- from the first loading on, all images are what the history of the store allows for the bytes that it read, one image of before
   pub begun : IsTrue (loads_rows deeds) → IfSome s.content (λ _. ComeFromOne key_layout (program_setting zero_seed) opening deeds s t)
+  -- once rows were loaded, each image shows the rows that are kept, or these with the slot in doubt replaced: every key is whole, old or new
+  pub shows : EachImage t (ShowsKeys key_layout (after_deeds (program_setting zero_seed) opening deeds).shared)
   -- no bad store comes after a loading, and no fate is other
   pub calm : IfSome s.content (λ _. CalmFrom (program_setting zero_seed) opening deeds)
