@@ -1,10 +1,12 @@
 -- What the pad keeps, and of which state.
 use Rattle.flat_machine.specs.DiskSteps.{IsReadyStore}
+use Rattle.device_lock.specs.LockLine.{holder_of}
 use Rattle.flat_machine.specs.Kept.{FitRunning, Kept, kept_of}
+use Rattle.flat_machine.specs.Machine.{holder_number, next_work, one_if, work_number}
 use Rattle.flat_machine.specs.PinFacts.{passes_submit}
 use Rattle.flat_machine.specs.Settings.{Setting, setting_with}
 use Rattle.flat_machine.specs.Sound.{Sound}
-use Rattle.flat_machine.specs.State.{Flat, Running, Shared}
+use Rattle.flat_machine.specs.State.{Flat, Running, Shared, device_number, running_entry}
 use Rattle.flat_machine.specs.declared.types.Device.{Device}
 use Rattle.key_table.specs.Changes.{Change}
 use Rattle.key_table.specs.KeyStores.{KeyStore}
@@ -18,7 +20,7 @@ use Rattle.pin_blocks.specs.PinRules.{PinRules}
 use Rattle.request_queue.specs.Requests.{gone_count}
 use Rattle.request_queue.specs.declared.requests.RequestRow.{RequestRow}
 use Rattle.session_book.specs.declared.sessions.SessionRow.{SessionRow}
-use Rattle.std.specs.Prelude.{Bool, List, Option, ℕ, ◌&&◌, ◌*◌, ◌≡◌, ◌≤◌}
+use Rattle.std.specs.Prelude.{Bool, List, Option, is_some, ℕ, ◌&&◌, ◌*◌, ◌+◌, ◌≡◌, ◌≤◌}
 
 -- what a pad of this PIN work and this seed has from outside
 abbrev pub set_by : PinRules → List ℕ → Setting
@@ -93,3 +95,8 @@ pad_state whole = record { kept = kept_by whole; stored = whole.common.store.byt
 -- the running entry that the code names by its owner and its rules
 abbrev pub running_of : RunningEntry → Running
 running_of running_entry = record { id = running_entry.owner.id; session = running_entry.owner.session; entry = running_entry.entry }
+
+-- the state as one number, from the shared part and whether a PIN is held
+abbrev pub status_with : Shared → Bool → ℕ
+status_with shared pin = device_number shared.device + 4 * one_if (is_some (running_entry shared)) + 8 * one_if pin + 16 * work_number (next_work shared)
+    + 64 * holder_number (holder_of shared.line) + 2048 * gone_count shared.requests

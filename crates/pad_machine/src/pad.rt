@@ -120,6 +120,16 @@ impl<W: PinWork + Drop> Pad<W> {
         self.parts.next_work()
     }
 
+    /// The state as one number: the device (off 0, ready 1, stopped 2, bad 3), 4 if an entry runs, 8 if a PIN is held, 16
+    /// times the work that is due (none 0, Begin 1, Finish 2), 64 times the session that holds the lock (0 for none), and
+    /// 2,048 times the number of ended requests.
+    pub fn status(&self) -> u64
+        ensures { (seed : List ℕ) (state : Flat) →
+            StandsFor self.now seed state → result ≡ status state }
+    {
+        self.parts.status()
+    }
+
     /// Whether the step is a press of an active digit of a running PIN entry.
     pub fn is_masked(&self, step: &Step) -> bool
         ensures { (seed : List ℕ) (state : Flat) →

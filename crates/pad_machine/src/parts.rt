@@ -4,14 +4,14 @@ ghost use Rattle.std.specs.Option.{option_map};
 ghost use Rattle.entry_core.specs.Presses.{FitEntry};
 ghost use Rattle.flat_machine.specs.DiskFacts.{IsKeptStore, KeepsStore};
 ghost use Rattle.flat_machine.specs.Kept.{FitRunning, kept_ends, kept_next, kept_press_in};
-ghost use Rattle.flat_machine.specs.Machine.{next_work};
+ghost use Rattle.flat_machine.specs.Machine.{has_pin, next_work};
 ghost use Rattle.flat_machine.specs.Power.{word_fate};
 ghost use Rattle.flat_machine.specs.State.{opening, running_entry};
 ghost use Rattle.key_source.specs.declared.Key.{Key};
 ghost use Rattle.pad_machine.specs.Does.{Becomes, Does};
 ghost use Rattle.pad_machine.specs.Memory.{places_for, takes_memory};
 ghost use Rattle.pad_machine.specs.Prepares.{IsPlanned, IsPrepared, IsRunning, IsTakenToday, calls_of, deciding, effect_of, is_plain, places_of, pressed, said_of, switch_of, with_key};
-ghost use Rattle.pad_machine.specs.Stands.{DrawnFew, IsSound, StandsFor, kept_by, pad_state, running_of, set_by, shared_of};
+ghost use Rattle.pad_machine.specs.Stands.{DrawnFew, IsSound, StandsFor, kept_by, pad_state, running_of, set_by, shared_of, status_with};
 ghost use Rattle.pad_steps.specs.declared.answers.Answer.TheVariants.{Entered};
 ghost use Rattle.pad_steps.specs.declared.answers.Reply.TheVariants.{Ok as ReplyOk};
 ghost use Rattle.pad_steps.specs.declared.steps.DiskWord.TheVariants.{Quiet};
@@ -81,6 +81,14 @@ impl<W: PinWork + Drop> Parts<W> {
         ensures { result ≡ next_work (shared_of self.now.common) }
     {
         self.shared.next_work()
+    }
+
+    /// The state as one number.
+    pub fn status(&self) -> u64
+        requires { IsSound W.rules (shared_of self.now.common) }
+        ensures { result ≡ status_with (shared_of self.now.common) (has_pin self.now.held) }
+    {
+        self.shared.status(!self.held.digits().is_empty())
     }
 
     /// The running entry.

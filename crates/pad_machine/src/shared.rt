@@ -21,6 +21,7 @@ ghost use Rattle.request_queue.specs.Requests.{pending_by_id, request_command, r
 
 mod changing;
 mod powering;
+mod status;
 
 use crate::crypts::crypt_work;
 use crate::doubt::Doubt;
