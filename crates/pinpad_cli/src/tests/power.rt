@@ -1,8 +1,9 @@
 //! Power cuts, faults and bad stores in whole runs, over a disk in memory.
 use crate::top::run_pinpad;
-use disk_core::{Calls, Counted, DISK_BYTES, MemDisk, MemSink, MemSource};
+use disk_core::{ArmDisk, Calls, Counted, DISK_BYTES, FileDisk, MemDisk, MemSink, MemSource};
 use pad_words::Octets;
 use std::alloc::Global;
+use std::fs::{OpenOptions, remove_file};
 use std::process::Abort;
 use std::test::Fail;
 
@@ -14,11 +15,11 @@ const OPENING_PRINTED: &str = "> boot / loaded 0 first\n> open 1\n< 1 told open\
 const IMPORT: &str = "submit 1 0 import PPK clear 0000000000000000 0002 none\n";
 
 // Replays a script over this disk, and compares what is printed.
-fn compare_on(
+fn compare_on<D: ArmDisk>(
     rt: &impl Abort,
     alloc: Global,
     name: &str,
-    mut disk: MemDisk,
+    disk: &mut D,
     script: &str,
     printed: &str,
 ) -> Result<(), Fail> {
@@ -28,7 +29,7 @@ fn compare_on(
     let sink_fails = Calls::of(&[]).ok_or("no calls")?;
     let mut source = MemSource::new(Octets::copy(alloc, script.as_bytes())?, 100, source_fails);
     let mut sink = Counted::new(MemSink::new(alloc, 32768, sink_fails)?);
-    let ended = run_pinpad(alloc, words.as_slice(), &mut source, &mut sink, &mut disk);
+    let ended = run_pinpad(alloc, words.as_slice(), &mut source, &mut sink, disk);
     assert_eq!(rt; ended.status, 0, "{name}: status");
     assert!(rt;
         sink.inner().bytes() == printed.as_bytes(),
@@ -51,7 +52,7 @@ fn compare(
         rt,
         alloc,
         name,
-        MemDisk::new(),
+        &mut MemDisk::new(),
         script.as_str(),
         printed.as_str(),
     )
@@ -137,6 +138,15 @@ const RUNS: &[(&str, &str, &str)] = &[
          > begin\n> finish / done\n< 1 ended 1 OK key -\n",
     ),
     (
+        "each loading fails, and nothing but RESET is done",
+        "off\nfail 1\nboot\nfail 2\nsubmit 1 0 reset\nauto\n\
+         submit 1 0 init\nauto\nsubmit 1 0 reset\nauto\n",
+        "> off\n> boot / failed 0\n> submit 1 0 reset\n< 1 request 1\n\
+         > begin\n> finish / failed 0\n< 1 ended 1 HARDWAREERROR\n\
+         > submit 1 0 init\n< 1 request 2\n> begin\n> finish\n< 1 ended 2 HARDWAREERROR\n\
+         > submit 1 0 reset\n< 1 request 3\n> begin\n> finish / loaded 0 old\n< 1 ended 3 OK\n",
+    ),
+    (
         "pending requests are lost at Off, in order of their ids, and later ones are refused",
         "submit 1 0 reset\nsubmit 1 0 init\noff\nsubmit 1 0 reset\noff\nboot\n",
         "> submit 1 0 reset\n< 1 request 1\n> submit 1 0 init\n< 1 request 2\n\
@@ -180,8 +190,48 @@ fn bad_stores(rt: HostRuntime) -> Result<(), Fail> {
         &rt,
         rt.alloc(),
         "byte 64 is 9",
-        MemDisk::of(bytes),
+        &mut MemDisk::of(bytes),
         script,
         printed,
     )
+}
+
+/// What the store in a file is given before it is opened again: its length, where that is changed, and what is loaded then.
+const LENGTHS: [(Option<u64>, &str); 4] = [
+    (None, "1 first"),
+    (Some(20_000), "1 first"),
+    (Some(2), "0 first"),
+    (Some(0), "0 first"),
+];
+
+// A store in a file keeps its key. A longer file is read at its front, and a shorter one is lengthened with zero bytes.
+#[test]
+fn store_in_a_file(rt: HostRuntime) -> Result<(), Fail> {
+    let alloc = rt.alloc();
+    // One that an earlier run left, if it did.
+    let _left = remove_file(&rt, "store");
+    let mut disk = FileDisk::on_path(&rt, "store")?;
+    let script = format!(in alloc; "{OPENING}{IMPORT}auto\n")?;
+    let printed = format!(in alloc;
+        "{OPENING_PRINTED}> {IMPORT}< 1 request 1\n> begin\n> finish / done\n< 1 ended 1 OK key -\n"
+    )?;
+    compare_on(
+        &rt,
+        alloc,
+        "a new file",
+        &mut disk,
+        script.as_str(),
+        printed.as_str(),
+    )?;
+    for (length, loaded) in LENGTHS {
+        if let Some(length) = length {
+            let mut options = OpenOptions::new();
+            options.write(true).open(&rt, "store")?.set_len(length)?;
+        }
+        let mut again = FileDisk::on_path(&rt, "store")?;
+        let printed = format!(in alloc; "> boot / loaded {loaded}\n")?;
+        compare_on(&rt, alloc, loaded, &mut again, "boot\n", printed.as_str())?;
+    }
+    remove_file(&rt, "store")?;
+    Ok(())
 }
