@@ -13,6 +13,8 @@ mod stored_keys;
 mod stored_tests;
 mod table;
 #[cfg(test)]
+mod test_keys;
+#[cfg(test)]
 mod tests;
 
 use disk_core::DiskError;

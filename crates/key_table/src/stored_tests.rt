@@ -1,12 +1,9 @@
 //! Rows put, removed and erased with a strike at each device call, and loaded again; and stores with bad slots.
+use crate::test_keys::{CRYPT, Kept, has_rows, key, numbered_key};
 use crate::{Erased, LoadFault, PutFault, RemoveFault, StoredKeys};
 use disk_core::{ArmDisk, DISK_BYTES, Disk, DiskError, Keep, MemDisk, PowerDisk, Strike};
-use key_attributes::{KeyRow, KeyValue, Uses};
-use pad_words::KeyName;
-use std::test::Fail;
-
-/// A slot, the name in it, and the byte of its value.
-type Kept = (u8, &'static [u8], u8);
+use key_attributes::KeyRow;
+use pad_words::{KeyName, NoMemory};
 
 /// What each table begins with. Each slot was written once, so that the next selector is even.
 const BEFORE: &[Kept] = &[(0, b"A", 1), (1, b"B", 2), (2, b"C", 3)];
@@ -87,197 +84,285 @@ const STRIKES: &[Struck] = &[
     (4, Strike::Fail, DiskError::Failed, true, true),
 ];
 
-fn key(name: &[u8], byte: u8) -> Result<KeyRow, Fail> {
-    Ok(KeyRow {
-        name: KeyName::read(name).ok_or("a name")?,
-        value: KeyValue::new(&[byte; 8]).ok_or("a value")?,
-        uses: Uses::from_bits(1).ok_or("uses")?,
-    })
+/// What is done to the rows of before.
+#[derive(Clone, Copy)]
+enum Change {
+    Put(&'static [u8], u8),
+    Remove(&'static [u8]),
+    // All rows are erased, and the strike comes once so many are.
+    Erase(u8),
 }
 
-fn has_rows(keys: &StoredKeys, rows: &[Kept]) -> bool {
-    let mut same = keys.rows().len() == rows.len();
-    for ((slot, row), (is_slot, name, byte)) in keys.rows().iter().zip(rows) {
-        let is = row.name.text() == *name && row.value.bytes() == [*byte; 8].as_slice();
-        same = same && is && slot == is_slot;
-    }
-    same
-}
+/// A change, whether the new selector of the struck slot is even, the rows after the strike, and the rows where that slot
+/// has its new cell.
+type Changed = (Change, bool, &'static [Kept], &'static [Kept]);
 
-// Loads, and puts a row.
-fn loaded_put(
-    keys: &mut StoredKeys,
-    disk: &mut MemDisk,
-    row: &KeyRow,
-) -> Result<Result<(), PutFault>, LoadFault> {
-    keys.load(disk)?;
-    Ok(keys.put(disk, row))
-}
-
-// Loads, and puts a row with a strike.
-fn struck_put(
-    keys: &mut StoredKeys,
-    disk: &mut MemDisk,
-    row: &KeyRow,
-    call: u32,
-    strike: Strike,
-) -> Result<Result<(), PutFault>, LoadFault> {
-    keys.load(disk)?;
-    disk.arm(call.max(1), strike);
-    Ok(keys.put(disk, row))
-}
-
-// Loads, and removes a name.
-fn loaded_remove(
-    keys: &mut StoredKeys,
-    disk: &mut MemDisk,
-    name: &KeyName,
-) -> Result<Result<(), RemoveFault>, LoadFault> {
-    keys.load(disk)?;
-    Ok(keys.remove(disk, name))
-}
-
-// Loads, and removes a name with a strike.
-fn struck_remove(
-    keys: &mut StoredKeys,
-    disk: &mut MemDisk,
-    name: &KeyName,
-    call: u32,
-    strike: Strike,
-) -> Result<Result<(), RemoveFault>, LoadFault> {
-    keys.load(disk)?;
-    disk.arm(call.max(1), strike);
-    Ok(keys.remove(disk, name))
-}
-
-// Loads, and erases all rows with a strike.
-fn struck_erase(
-    keys: &mut StoredKeys,
-    disk: &mut MemDisk,
-    call: u32,
-    strike: Strike,
-) -> Result<Erased, LoadFault> {
-    keys.load(disk)?;
-    disk.arm(call.max(1), strike);
-    Ok(keys.erase_all(disk))
-}
-
-// A disk with the rows of before.
-fn filled(keys: &mut StoredKeys) -> Result<MemDisk, Fail> {
-    let mut disk = MemDisk::new();
-    for (_, name, byte) in BEFORE {
-        let put = loaded_put(keys, &mut disk, &key(name, *byte)?);
-        if put != Ok(Ok(())) {
-            return Err("a row put".into());
-        }
-    }
-    Ok(disk)
-}
-
-/// A row put, whether its new selector is even, and the rows after it.
-const PUTS: &[(&[u8], u8, bool, &[Kept])] = &[
-    (b"B", 9, true, &[(0, b"A", 1), (1, b"B", 9), (2, b"C", 3)]),
+const CHANGES: &[Changed] = &[
     (
-        b"D",
-        4,
+        Change::Put(b"B", 9),
+        true,
+        BEFORE,
+        &[(0, b"A", 1), (1, b"B", 9), (2, b"C", 3)],
+    ),
+    (
+        Change::Put(b"D", 4),
         false,
+        BEFORE,
         &[(0, b"A", 1), (1, b"B", 2), (2, b"C", 3), (3, b"D", 4)],
     ),
+    (
+        Change::Remove(b"B"),
+        true,
+        BEFORE,
+        &[(0, b"A", 1), (2, b"C", 3)],
+    ),
+    (
+        Change::Erase(0),
+        true,
+        BEFORE,
+        &[(1, b"B", 2), (2, b"C", 3)],
+    ),
+    (
+        Change::Erase(1),
+        true,
+        &[(1, b"B", 2), (2, b"C", 3)],
+        &[(2, b"C", 3)],
+    ),
+    (Change::Erase(2), true, &[(2, b"C", 3)], &[]),
 ];
 
-#[test]
-fn puts(rt: HostRuntime) -> Result<(), Fail> {
-    let mut keys = StoredKeys::new(rt.alloc())?;
-    for (name, byte, is_even, after) in PUTS {
-        let row = key(name, *byte)?;
-        for (at, (call, strike, fault, even, odd)) in STRIKES.iter().enumerate() {
-            let mut disk = filled(&mut keys)?;
-            let put = struck_put(&mut keys, &mut disk, &row, *call, *strike);
-            assert!(rt; put == Ok(Err(PutFault::Disk(*fault))), "strike {at}");
-            assert!(rt; !keys.settled() && has_rows(&keys, BEFORE), "strike {at}");
-            disk.on();
-            assert!(rt; keys.load(&mut disk) == Ok(()), "strike {at}");
-            let is_new = if *is_even { *even } else { *odd };
-            let left = if is_new { after } else { BEFORE };
-            assert!(rt; keys.settled() && has_rows(&keys, left), "strike {at}");
-        }
-        let mut disk = filled(&mut keys)?;
-        let put = loaded_put(&mut keys, &mut disk, &row);
-        assert!(rt; put == Ok(Ok(())) && has_rows(&keys, after));
-        assert!(rt; keys.load(&mut disk) == Ok(()) && has_rows(&keys, after));
-    }
-    Ok(())
+// Loads, and puts a row: whether this is the answer.
+fn answers_put(
+    keys: &mut StoredKeys,
+    disk: &mut MemDisk,
+    row: &KeyRow,
+    answer: Result<(), PutFault>,
+) -> Result<bool, LoadFault> {
+    keys.load(disk)?;
+    Ok(keys.put(disk, row) == answer)
 }
 
-#[test]
-fn removals(rt: HostRuntime) -> Result<(), Fail> {
-    let mut keys = StoredKeys::new(rt.alloc())?;
-    let name = KeyName::read(b"B").ok_or("a name")?;
-    let after: &[Kept] = &[(0, b"A", 1), (2, b"C", 3)];
-    for (at, (call, strike, fault, is_new, _)) in STRIKES.iter().enumerate() {
-        let mut disk = filled(&mut keys)?;
-        let removed = struck_remove(&mut keys, &mut disk, &name, *call, *strike);
-        assert!(rt;
-            removed == Ok(Err(RemoveFault::Disk(*fault))),
-            "strike {at}"
-        );
-        assert!(rt; !keys.settled() && has_rows(&keys, BEFORE), "strike {at}");
-        disk.on();
-        assert!(rt; keys.load(&mut disk) == Ok(()), "strike {at}");
-        let left = if *is_new { after } else { BEFORE };
-        assert!(rt; keys.settled() && has_rows(&keys, left), "strike {at}");
-    }
-    let mut disk = filled(&mut keys)?;
-    let removed = loaded_remove(&mut keys, &mut disk, &name);
-    assert!(rt; removed == Ok(Ok(())) && has_rows(&keys, after));
-    let again = loaded_remove(&mut keys, &mut disk, &name);
-    assert!(rt; again == Ok(Err(RemoveFault::KeyNotFound)) && has_rows(&keys, after));
-    Ok(())
+// Loads, and puts a row with a strike: whether it has the fault.
+fn fails_put(
+    keys: &mut StoredKeys,
+    disk: &mut MemDisk,
+    row: &KeyRow,
+    struck: &Struck,
+) -> Result<bool, LoadFault> {
+    keys.load(disk)?;
+    disk.arm(struck.0.max(1), struck.1);
+    Ok(keys.put(disk, row) == Err(PutFault::Disk(struck.2)))
 }
 
-#[test]
-fn erasures(rt: HostRuntime) -> Result<(), Fail> {
-    let mut keys = StoredKeys::new(rt.alloc())?;
-    for count in 0..3u8 {
-        for (at, (call, strike, fault, is_new, _)) in STRIKES.iter().enumerate() {
-            let mut disk = filled(&mut keys)?;
-            let call = 4 * u32::from(count) + *call % 5;
-            let erased = struck_erase(&mut keys, &mut disk, call, *strike);
-            let fault = Some(*fault);
-            assert!(rt;
-                erased == Ok(Erased { count, fault }),
-                "strike {at} of {count}"
-            );
-            let first = usize::from(count);
-            assert!(rt;
-                !keys.settled() && has_rows(&keys, &BEFORE[first..]),
-                "strike {at}"
-            );
-            disk.on();
-            assert!(rt; keys.load(&mut disk) == Ok(()), "strike {at}");
-            let left = if *is_new { first + 1 } else { first };
-            assert!(rt; has_rows(&keys, &BEFORE[left..]), "strike {at} of {count}");
+// Loads, and removes a name: whether this is the answer.
+fn answers_removal(
+    keys: &mut StoredKeys,
+    disk: &mut MemDisk,
+    name: &KeyName,
+    answer: Result<(), RemoveFault>,
+) -> Result<bool, LoadFault> {
+    keys.load(disk)?;
+    Ok(keys.remove(disk, name) == answer)
+}
+
+// Loads, and removes a name with a strike: whether it has the fault.
+fn fails_removal(
+    keys: &mut StoredKeys,
+    disk: &mut MemDisk,
+    name: &KeyName,
+    struck: &Struck,
+) -> Result<bool, LoadFault> {
+    keys.load(disk)?;
+    disk.arm(struck.0.max(1), struck.1);
+    Ok(keys.remove(disk, name) == Err(RemoveFault::Disk(struck.2)))
+}
+
+// Loads, and erases all rows with a strike: whether this is the answer.
+fn answers_erasure(
+    keys: &mut StoredKeys,
+    disk: &mut MemDisk,
+    call: u32,
+    strike: Strike,
+    answer: Erased,
+) -> Result<bool, LoadFault> {
+    keys.load(disk)?;
+    disk.arm(call.max(1), strike);
+    Ok(keys.erase_all(disk) == answer)
+}
+
+// Puts a key: whether this is the answer.
+fn puts_key(
+    keys: &mut StoredKeys,
+    disk: &mut MemDisk,
+    row: Option<KeyRow>,
+    answer: Result<(), PutFault>,
+) -> bool {
+    match row {
+        Some(row) => answers_put(keys, disk, &row, answer) == Ok(true),
+        None => false,
+    }
+}
+
+// Puts the rows of before on a new disk: whether each is kept.
+fn fills(keys: &mut StoredKeys, disk: &mut MemDisk) -> bool {
+    for (_, name, byte) in BEFORE {
+        if !puts_key(keys, disk, key(name, *byte, CRYPT), Ok(())) {
+            return false;
         }
     }
-    let mut disk = filled(&mut keys)?;
-    let erased = struck_erase(&mut keys, &mut disk, 13, Strike::Fail);
+    true
+}
+
+// Erases all rows with a strike once so many are erased: whether it has the fault.
+fn fails_erasure(
+    keys: &mut StoredKeys,
+    disk: &mut MemDisk,
+    count: u8,
+    struck: &Struck,
+) -> Result<bool, LoadFault> {
+    let call = 4 * u32::from(count) + struck.0 % 5;
+    let fault = Some(struck.2);
+    answers_erasure(keys, disk, call, struck.1, Erased { count, fault })
+}
+
+// Makes the change with a strike: whether it has the fault.
+fn fails_change(
+    keys: &mut StoredKeys,
+    disk: &mut MemDisk,
+    change: Change,
+    struck: &Struck,
+) -> bool {
+    let fails = match change {
+        Change::Put(name, byte) => match key(name, byte, CRYPT) {
+            Some(row) => fails_put(keys, disk, &row, struck),
+            None => Ok(false),
+        },
+        Change::Remove(name) => match KeyName::read(name) {
+            Some(name) => fails_removal(keys, disk, &name, struck),
+            None => Ok(false),
+        },
+        Change::Erase(count) => fails_erasure(keys, disk, count, struck),
+    };
+    fails == Ok(true)
+}
+
+// Switches on and loads again: whether these rows stood there before it, with no store, and those after it.
+fn recovers(keys: &mut StoredKeys, disk: &mut MemDisk, now: &[Kept], then: &[Kept]) -> bool {
+    let has_now = !keys.settled() && has_rows(keys.rows(), now);
+    disk.on();
+    keys.load(disk) == Ok(()) && has_now && keys.settled() && has_rows(keys.rows(), then)
+}
+
+// Whether the change with a strike has the fault, and leaves what it is to leave.
+fn is_struck(keys: &mut StoredKeys, changed: &Changed, struck: &Struck) -> bool {
+    let (change, is_even, now, new) = changed;
+    let is_new = if *is_even { struck.3 } else { struck.4 };
+    let then = if is_new { *new } else { *now };
+    let mut disk = MemDisk::new();
+    fills(keys, &mut disk)
+        && fails_change(keys, &mut disk, *change, struck)
+        && recovers(keys, &mut disk, now, then)
+}
+
+// The first strike at which the change is otherwise.
+fn wrong_strike(keys: &mut StoredKeys, changed: &Changed) -> Option<usize> {
+    for at in 0..STRIKES.len() {
+        if !is_struck(keys, changed, &STRIKES[at]) {
+            return Some(at);
+        }
+    }
+    None
+}
+
+// Loads: whether the rows before it and after it are these.
+fn keeps_rows(keys: &mut StoredKeys, disk: &mut MemDisk, rows: &[Kept]) -> bool {
+    let has_now = has_rows(keys.rows(), rows);
+    has_now && keys.load(disk) == Ok(()) && has_rows(keys.rows(), rows)
+}
+
+// Puts a row: whether it is kept, and is there when it is loaded again.
+fn puts_whole(
+    keys: &mut StoredKeys,
+    disk: &mut MemDisk,
+    row: Option<KeyRow>,
+    rows: &[Kept],
+) -> bool {
+    puts_key(keys, disk, row, Ok(())) && keeps_rows(keys, disk, rows)
+}
+
+// Removes a name twice: whether it is gone the first time, and absent the second.
+fn removes_whole(keys: &mut StoredKeys, disk: &mut MemDisk, name: &KeyName, rows: &[Kept]) -> bool {
+    answers_removal(keys, disk, name, Ok(())) == Ok(true)
+        && has_rows(keys.rows(), rows)
+        && answers_removal(keys, disk, name, Err(RemoveFault::KeyNotFound)) == Ok(true)
+        && has_rows(keys.rows(), rows)
+}
+
+// Erases all rows with a strike behind the last call: whether all are erased.
+fn erases_whole(keys: &mut StoredKeys, disk: &mut MemDisk) -> bool {
     let (count, fault) = (3, None);
-    assert!(rt; erased == Ok(Erased { count, fault }) && has_rows(&keys, &[]));
-    Ok(())
+    answers_erasure(keys, disk, 13, Strike::Fail, Erased { count, fault }) == Ok(true)
+        && has_rows(keys.rows(), &[])
+}
+
+// Makes the change with no strike: whether it is whole.
+fn is_whole(keys: &mut StoredKeys, changed: &Changed) -> bool {
+    let mut disk = MemDisk::new();
+    if !fills(keys, &mut disk) {
+        return false;
+    }
+    match changed.0 {
+        Change::Put(name, byte) => {
+            puts_whole(keys, &mut disk, key(name, byte, CRYPT), changed.3)
+        }
+        Change::Remove(name) => match KeyName::read(name) {
+            Some(name) => removes_whole(keys, &mut disk, &name, changed.3),
+            None => false,
+        },
+        Change::Erase(_) => erases_whole(keys, &mut disk),
+    }
+}
+
+// The first change, and the strike at it, that is otherwise; the number of strikes where it is not whole with no strike.
+fn wrong_change(keys: &mut StoredKeys) -> Option<(usize, usize)> {
+    for place in 0..CHANGES.len() {
+        if let Some(at) = wrong_strike(keys, &CHANGES[place]) {
+            return Some((place, at));
+        }
+        if !is_whole(keys, &CHANGES[place]) {
+            return Some((place, STRIKES.len()));
+        }
+    }
+    None
 }
 
 #[test]
-fn a_full_store(rt: HostRuntime) -> Result<(), Fail> {
+fn changes(rt: HostRuntime) -> Result<(), NoMemory> {
     let mut keys = StoredKeys::new(rt.alloc())?;
+    assert_eq!(rt; wrong_change(&mut keys), None);
+    Ok(())
+}
+
+// The first number whose key is not kept; 64 where the next one is not refused, or not all rows stand.
+fn wrong_number(keys: &mut StoredKeys) -> Option<u8> {
     let mut disk = MemDisk::new();
     for number in 0..64u8 {
-        let name = [b'K', b'0' + number / 10, b'0' + number % 10];
-        let put = loaded_put(&mut keys, &mut disk, &key(&name, number)?);
-        assert!(rt; put == Ok(Ok(())), "key {number}");
+        if !puts_key(keys, &mut disk, numbered_key(number), Ok(())) {
+            return Some(number);
+        }
     }
-    let put = loaded_put(&mut keys, &mut disk, &key(b"K64", 64)?);
-    assert!(rt; put == Ok(Err(PutFault::TableFull)) && keys.settled());
-    assert!(rt; keys.rows().len() == 64);
+    let is_refused = puts_key(keys, &mut disk, numbered_key(64), Err(PutFault::TableFull));
+    if is_refused && keys.settled() && keys.rows().len() == 64 {
+        None
+    } else {
+        Some(64)
+    }
+}
+
+#[test]
+fn a_full_store(rt: HostRuntime) -> Result<(), NoMemory> {
+    let mut keys = StoredKeys::new(rt.alloc())?;
+    assert_eq!(rt; wrong_number(&mut keys), None);
     Ok(())
 }
 
@@ -294,25 +379,40 @@ const BAD: &[(u32, u8, u8)] = &[
     (64 + 126 * 96 + 95, 1, 63),
 ];
 
-#[test]
-fn bad_stores(rt: HostRuntime) -> Result<(), Fail> {
-    let mut keys = StoredKeys::new(rt.alloc())?;
-    for (place, byte, slot) in BAD {
-        let mut disk = filled(&mut keys)?;
-        disk.write_at(*place % DISK_BYTES as u32, &[*byte])?;
-        assert!(rt;
-            keys.load(&mut disk) == Err(LoadFault::BadStore(*slot)),
-            "slot {slot}"
-        );
-        // The rows are those of before.
-        assert!(rt; !keys.settled() && has_rows(&keys, BEFORE), "slot {slot}");
-        // In a half that does not count it is nothing.
-        let mut disk = filled(&mut keys)?;
-        disk.write_at(64 + 2 * 96, &[*byte])?;
-        assert!(rt;
-            keys.load(&mut disk) == Ok(()) && has_rows(&keys, BEFORE),
-            "slot {slot}"
-        );
+// The rows of before with a byte written on their disk, loaded. None where a call before the load has a fault.
+fn written_load(keys: &mut StoredKeys, place: u32, byte: u8) -> Option<Result<(), LoadFault>> {
+    let mut disk = MemDisk::new();
+    if !fills(keys, &mut disk) {
+        return None;
     }
+    match disk.write_at(place % DISK_BYTES as u32, &[byte]) {
+        Ok(()) => Some(keys.load(&mut disk)),
+        Err(_) => None,
+    }
+}
+
+// Whether the byte makes the slot bad, and the rows stay those of before; and in a half that does not count it is nothing.
+fn is_bad(keys: &mut StoredKeys, place: u32, byte: u8, slot: u8) -> bool {
+    written_load(keys, place, byte) == Some(Err(LoadFault::BadStore(slot)))
+        && !keys.settled()
+        && has_rows(keys.rows(), BEFORE)
+        && written_load(keys, 64 + 2 * 96, byte) == Some(Ok(()))
+        && has_rows(keys.rows(), BEFORE)
+}
+
+// The first place whose byte is answered otherwise.
+fn wrong_place(keys: &mut StoredKeys) -> Option<u32> {
+    for (place, byte, slot) in BAD {
+        if !is_bad(keys, *place, *byte, *slot) {
+            return Some(*place);
+        }
+    }
+    None
+}
+
+#[test]
+fn bad_stores(rt: HostRuntime) -> Result<(), NoMemory> {
+    let mut keys = StoredKeys::new(rt.alloc())?;
+    assert_eq!(rt; wrong_place(&mut keys), None);
     Ok(())
 }
