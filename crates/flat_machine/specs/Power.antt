@@ -16,7 +16,7 @@ use Rattle.pad_steps.specs.declared.steps.Fate.TheVariants as fates
 abbrev pub powers_off : Shared → Said
 powers_off shared = dropping_pin true (ends (λ request. true) refusals.ConnectionLost (record shared { device = Off; part = []; maintain = false }))
 
--- what the word of a loading does: rows make the device ready and end a doubt, a fault stops it, a bad slot makes it bad, a cut leaves it off
+-- what the word of a loading does: rows make the device ready and end a doubt, a fault stops it, a bad slot makes it bad, a cut leaves it off. Quiet and Done never come: they fit no loading (`fits_plan`)
 abbrev pub loads : Shared → DiskWord → Said
 loads shared words.Quiet = unchanged shared
 loads shared words.Done = unchanged shared
@@ -25,7 +25,7 @@ loads shared (words.Cut count) = powers_off shared
 loads shared (words.Loaded rows) = unchanged (record shared { device = Ready; keys = rows; doubt = None; loaded = true })
 loads shared (words.Bad slot) = unchanged (record shared { device = Bad slot })
 
--- what the word of a step does that replaces slots one by one: all were replaced and it is done; or after `count` of them a fault stopped the device or a cut came, and the next slot is in doubt
+-- what the word of a step does that replaces slots one by one: all were replaced and it is done; or after `count` of them a fault stopped the device or a cut came, and the next slot is in doubt. Loaded and Bad never come: they fit no replacement
 abbrev pub replaces : Shared → Owner → List Change → (Shared → Said) → DiskWord → Said
 replaces shared owner todo done (words.Failed count) =
     replies (record shared { device = Stopped; keys = changed (take count todo) shared.keys; doubt = slice_get todo count }) owner (replied.No refusals.HardwareError)

@@ -50,7 +50,7 @@ blank = record { device = Off; keys = []; doubt = None; loaded = false; sessions
 abbrev pub opening : Flat
 opening = record { shared = blank; presses = []; held = [] }
 
--- the state of a pad that is on from the start, with an empty store: where runs begin for a program that has no disk
+-- a second state in which the laws let runs begin: the device is on, with an empty store
 abbrev pub ready_opening : Flat
 ready_opening = record { shared = record blank { device = Ready }; presses = []; held = [] }
 
