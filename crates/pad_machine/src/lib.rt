@@ -13,7 +13,7 @@ mod prepared;
 mod refusals;
 mod running_entry;
 mod saying;
-mod shared;
+mod shared_part;
 mod submits;
 
 pub use pad::{Pad, Stepped};

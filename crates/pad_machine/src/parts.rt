@@ -25,7 +25,7 @@ use crate::pad::Stepped;
 use crate::prepared::Prepared;
 use crate::running_entry::RunningEntry;
 use crate::saying::say;
-use crate::shared::Shared;
+use crate::shared_part::Shared;
 use disk_core::PowerDisk;
 use entry_core::Seen;
 use flat_machine::laws::devices::quiet_steps_leave_the_disk;

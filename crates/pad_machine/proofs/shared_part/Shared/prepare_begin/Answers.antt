@@ -8,7 +8,7 @@ use Rattle.request_queue.specs.declared.requests.Request.{Request}
 use Rattle.std.proofs.Common.{ap, ◌∙◌}
 use Rattle.std.specs.Option.{option_map}
 use Rattle.std.specs.Prelude.{Option}
-use Rattle.pad_machine.proofs.shared.Shared.prepare_begin.Goals as goal
+use Rattle.pad_machine.proofs.shared_part.Shared.prepare_begin.Goals as goal
 
 pub returns-in-Some-entry_refusal-clause-does : goal.returns-in-Some-entry_refusal-clause-does
 returns-in-Some-entry_refusal-clause-does g c =

@@ -1,7 +1,7 @@
 use Rattle.std.proofs.Common.{◌++◌, ◌≡◌, ◌≤◌}
 use Rattle.pad_machine.specs.Memory.{pending_in_all}
 use Rattle.pad_machine.specs.Replacing.{all_lost, losses_told}
-use Rattle.pad_machine.proofs.shared.powering.lose_all.Given as goal
+use Rattle.pad_machine.proofs.shared_part.powering.lose_all.Given as goal
 
 abbrev pub invariant-loop-id : goal.invariant-loop-id
 invariant-loop-id l = record {

@@ -7,8 +7,8 @@ use Rattle.request_queue.specs.declared.requests.Request.{Request}
 use Rattle.std.proofs.Common.{ap, arith, refl, ◌∙◌}
 use Rattle.std.specs.Option.{option_map}
 use Rattle.std.specs.Prelude.{Option, length}
-use Rattle.pad_machine.proofs.shared.Shared.prepare_finish.Goals.{in-Reset, in_default-matches}
-use Rattle.pad_machine.proofs.shared.Shared.prepare_finish.Goals as goal
+use Rattle.pad_machine.proofs.shared_part.Shared.prepare_finish.Goals.{in-Reset, in_default-matches}
+use Rattle.pad_machine.proofs.shared_part.Shared.prepare_finish.Goals as goal
 
 pub returns-then-matches-clause-ready : goal.returns-then-matches-clause-ready
 returns-then-matches-clause-ready g c = record {

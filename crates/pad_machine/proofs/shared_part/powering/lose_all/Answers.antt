@@ -9,7 +9,7 @@ use Rattle.request_queue.specs.declared.requests.Request.{Request}
 use Rattle.request_queue.specs.declared.requests.RequestRow.{RequestRow}
 use Rattle.std.specs.Option.{option_map}
 use Rattle.std.specs.Prelude.{List, Option, Some, drop, ◌≡◌}
-use Rattle.pad_machine.proofs.shared.powering.lose_all.Goals as goal
+use Rattle.pad_machine.proofs.shared_part.powering.lose_all.Goals as goal
 
 pub loop-id-smaller : goal.loop-id-smaller
 loop-id-smaller c =
