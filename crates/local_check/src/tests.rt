@@ -32,7 +32,7 @@ fn run<W: PinWork>(
     let Command::Pin(request) = command else {
         return Outcome::NotFormed;
     };
-    if !command.well_formed() {
+    if !command.is_well_formed() {
         return Outcome::NotFormed;
     }
     if let Err(why) = work.admit(request) {

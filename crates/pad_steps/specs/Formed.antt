@@ -23,8 +23,9 @@ use Rattle.pad_steps.specs.declared.steps.Step.{Step}
 use Rattle.pad_steps.specs.declared.steps.Step.TheVariants as step
 use Rattle.pad_words.specs.Names.{is_key_name}
 use Rattle.pad_words.specs.declared.bytes.Block.{Block}
+use Rattle.pad_words.specs.declared.numbers.Session.{Session}
 use Rattle.std.specs.List.{list_all}
-use Rattle.std.specs.Prelude.{Bool, List, None, Option, Some, false, length, nat_le, nat_lt, true, ℕ, ◌&&◌, ◌==◌}
+use Rattle.std.specs.Prelude.{Bool, List, None, Option, Some, false, length, nat_le, nat_lt, true, ℕ, ◌&&◌, ◌==◌, ◌≡◌}
 
 -- each is a byte
 abbrev pub all_bytes : List ℕ → Bool
@@ -143,3 +144,13 @@ is_well_formed (step.Press key) = is_key key
 is_well_formed (step.Tick ticks) = nat_le 1 ticks && nat_le ticks 1000000
 is_well_formed (step.Ask session question) = is_question question
 is_well_formed other = true
+
+-- ---- laws
+
+last_holds : (a b : Bool) → (a && b) ≡ true → b ≡ true
+last_holds true b e = e
+last_holds false b e = absurd cc
+
+-- a Submit that is well formed has a command that is
+pub is_well_formed_command-submit : (session : Session) (limit : ℕ) (command : Command) → is_well_formed (step.Submit session limit command) ≡ true → is_well_formed_command command ≡ true
+is_well_formed_command-submit session limit command formed = last_holds (nat_le limit 1000000) (is_well_formed_command command) formed

@@ -1,4 +1,3 @@
 pub mod Accounts
 pub mod Formed
 pub mod Lines
-pub mod Today

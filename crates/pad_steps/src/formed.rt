@@ -232,7 +232,7 @@ fn is_question(question: &Question) -> bool
 
 impl Command {
     /// Whether the command has the form that a line of the script can spell.
-    pub fn well_formed(&self) -> bool
+    pub fn is_well_formed(&self) -> bool
         ensures { result ≡ is_well_formed_command self.now }
     {
         match self {
@@ -250,11 +250,11 @@ impl Command {
 impl Step {
     /// Whether the step has the form that a line of the script can spell: a limit of at most 1,000,000 ticks, a tick of
     /// 1 to 1,000,000, and commands, keys and questions in their forms.
-    pub fn well_formed(&self) -> bool
+    pub fn is_well_formed(&self) -> bool
         ensures { result ≡ is_well_formed self.now }
     {
         match self {
-            Step::Submit(_, limit, command) => *limit <= 1_000_000 && command.well_formed(),
+            Step::Submit(_, limit, command) => *limit <= 1_000_000 && command.is_well_formed(),
             Step::Cancel(_, id) => is_word(*id),
             Step::Press(key) => is_key(key),
             Step::Tick(ticks) => 1 <= *ticks && *ticks <= 1_000_000,

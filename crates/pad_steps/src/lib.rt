@@ -8,7 +8,6 @@ mod copies;
 mod formed;
 pub mod lists;
 pub mod steps;
-mod today;
 
 pub use accounts::{are_decimal, is_pan};
 pub use answers::{

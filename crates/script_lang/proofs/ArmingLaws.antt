@@ -4,7 +4,7 @@ use Rattle.disk_core.specs.declared.disk.Keep.{Keep}
 use Rattle.disk_core.specs.declared.disk.Keep.TheVariants as kept
 use Rattle.disk_core.specs.declared.disk.Strike.TheVariants as struck
 use Rattle.script_lang.specs.Words.{Says, Word}
-use Rattle.script_lang.specs.Reading.{keep_after, line_after, read_byte, read_keep, read_keep_verb, read_number, with_field}
+use Rattle.script_lang.specs.Reading.{keep_after, read_byte, read_cut, read_fail, read_keep, read_keep_verb, read_number, with_field}
 use Rattle.script_lang.specs.Spelling.{byte_word, keep_verb_word, keep_words, line_verb_word, line_words, number_word}
 use Rattle.script_lang.specs.declared.kinds.KeepVerb.{KeepVerb}
 use Rattle.script_lang.specs.declared.kinds.KeepVerb.TheVariants as keep_verb
@@ -45,21 +45,24 @@ keep_reads = record { takes = keep_takes; again = λ bytes keep s. keep_again by
 call_field : IsField (read_number 1 1000) (Within 1 1000) number_word
 call_field = number_field 1 1000 (omega arith)
 
-cut_reads : Reads (line_after line_verb.Cut) (Then (Within 1 1000) number_word (λ call. Mapped (λ (keep : Keep). line.Arm call (struck.Cut keep)) (Spelled KeepFits keep_words)))
+cut_reads : Reads read_cut (Then (Within 1 1000) number_word (λ call. Mapped (λ (keep : Keep). line.Arm call (struck.Cut keep)) (Spelled KeepFits keep_words)))
+unfolding read_cut
 cut_reads = with_field_reads _ _ _ _ _ call_field (λ call. mapped_reads (λ (keep : Keep). line.Arm call (struck.Cut keep)) read_keep (Spelled KeepFits keep_words) keep_reads)
 
-pub cut_takes : RowTakes LineFits line_words (line_verb_word line_verb.Cut) (line_after line_verb.Cut)
+pub cut_takes : RowTakes LineFits line_words (line_verb_word line_verb.Cut) read_cut
 cut_takes bytes y e =
     let s = cut_reads.takes bytes y e in
     let t = s.4 in
     subst (λ y. LineFits y × After (line_verb_word line_verb.Cut) bytes (line_words y)) t.2 ((s.1.0, s.1.1, t.1.0), (refl, (s.2, s.3, t.1.1)))
 
-pub fail_takes : RowTakes LineFits line_words (line_verb_word line_verb.Fail) (line_after line_verb.Fail)
+pub fail_takes : RowTakes LineFits line_words (line_verb_word line_verb.Fail) read_fail
+unfolding read_fail
 fail_takes = row_one (read_number 1 1000) (Within 1 1000) number_word (λ call. line.Arm call struck.Fail) LineFits line_words (line_verb_word line_verb.Fail) call_field (λ call f. (f.0, f.1, tt)) (λ call. refl)
 
 -- the words behind the first one are read again
-pub cut_again : (bytes : List ℕ) (call : ℕ) (keep : Keep) → Within 1 1000 call → KeepFits keep → Says bytes (number_word call ∷ keep_words keep) → line_after line_verb.Cut bytes ≡ Some (line.Arm call (struck.Cut keep))
+pub cut_again : (bytes : List ℕ) (call : ℕ) (keep : Keep) → Within 1 1000 call → KeepFits keep → Says bytes (number_word call ∷ keep_words keep) → read_cut bytes ≡ Some (line.Arm call (struck.Cut keep))
 cut_again bytes call keep within fits s = cut_reads.again bytes (line.Arm call (struck.Cut keep)) (call, within, s.0, s.1, (keep, (fits, s.2), refl))
 
-pub fail_again : (bytes : List ℕ) (call : ℕ) → Within 1 1000 call → Says bytes (number_word call ∷ []) → line_after line_verb.Fail bytes ≡ Some (line.Arm call struck.Fail)
+pub fail_again : (bytes : List ℕ) (call : ℕ) → Within 1 1000 call → Says bytes (number_word call ∷ []) → read_fail bytes ≡ Some (line.Arm call struck.Fail)
+unfolding read_fail
 fail_again bytes call within s = one_again (read_number 1 1000) (Within 1 1000) number_word (λ call. line.Arm call struck.Fail) call_field bytes call within s

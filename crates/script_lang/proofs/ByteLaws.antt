@@ -1,20 +1,21 @@
 -- Bytes of two hexadecimal digits each: lists of them, and blocks.
 use Rattle.std.proofs.Common.{◌≡◌, ℕ, ◌+◌, ◌*◌, ◌/◌, ◌%◌, List, [], ◌∷◌, length, Some, true, eqb, refl, sym, ap, subst, ◌∙◌, arith}
-use Rattle.std.specs.Prelude.{nat_le, ◌&&◌}
+use Rattle.std.specs.Prelude.{bytes_eq, codes, nat_le, ◌&&◌}
 use Rattle.std.specs.List.{AllByRecursion}
 use Rattle.std.specs.Option.{option_map}
 use Rattle.std.proofs.lemmas.Bool.{eqb-true}
 use Rattle.std.proofs.lemmas.Bool.Decides.{nat_tests}
 use Rattle.pad_words.specs.Bytes.{packed, unpacked}
 use Rattle.pad_words.specs.declared.bytes.Block.{Block}
-use Rattle.script_lang.specs.Words.{hex_values}
-use Rattle.script_lang.specs.Reading.{hex_bytes, read_block, read_bytes, read_optional}
-use Rattle.script_lang.specs.Spelling.{block_word, bytes_word, optional_word}
+use Rattle.script_lang.specs.Words.{IsWord, hex_values}
+use Rattle.script_lang.specs.Reading.{hex_bytes, read_block, read_body, read_bytes, read_optional}
+use Rattle.script_lang.specs.Spelling.{block_word, body_word, bytes_word, optional_word}
 use Rattle.script_lang.proofs.Fits.{BlockFits, BytesFit, IsByte, IsNibble, OptionFits}
 use Rattle.script_lang.proofs.HexLaws.{digits_len, digits_small}
-use Rattle.script_lang.proofs.NameLaws.{optional_field}
+use Rattle.script_lang.proofs.NameLaws.{not_dash, optional_field}
 use Rattle.script_lang.proofs.Options.{both_true, guard_some, mapped_some}
 use Rattle.script_lang.proofs.Readers.{IsField}
+use Rattle.script_lang.proofs.WordLaws.{word_cases}
 
 pub packed-unpacked : (bytes : List ℕ) → packed (unpacked bytes) ≡ bytes
 packed-unpacked [] = refl
@@ -86,3 +87,25 @@ block_field = record {
 pub optional_block_field : IsField (read_optional read_block) (OptionFits BlockFits) (optional_word block_word)
 unfolding read_block
 optional_block_field = optional_field read_block BlockFits block_word block_field refl
+
+-- ---- bytes, or none
+
+some_body : (text body : List ℕ) → BytesFit 1 1024 body → hex_values text ≡ Some (unpacked body) → BytesFit 0 1024 body × IsWord text (body_word body)
+some_body text [] fits says = absurd (omega (arith, fits.0))
+some_body text (b ∷ bytes) fits says = ((omega arith, fits.1, fits.2), says)
+
+body_again : (text body : List ℕ) → BytesFit 0 1024 body → IsWord text (body_word body) → read_body text ≡ Some body
+unfolding read_body
+body_again text [] fits is = rw is refl
+body_again text (b ∷ bytes) fits says =
+    let found = (bytes_field 1 1024).again text (b ∷ bytes) (omega arith, fits.1, fits.2) says in
+    rw (not_dash (read_bytes 1 1024) text (b ∷ bytes) (bytes_eq text (codes "-")) refl (unfold read_bytes in refl) found, found) refl
+
+pub body_field : IsField read_body (BytesFit 0 1024) body_word
+unfolding read_body
+body_field = record {
+  takes = λ text body e.
+      word_cases text (codes "-") [] _ body (λ (body : List ℕ). BytesFit 0 1024 body × IsWord text (body_word body)) e (λ is. ((omega arith, omega arith, tt), is)) (λ e.
+      let t = (bytes_field 1 1024).takes text body e in some_body text body t.0 t.1);
+  again = body_again;
+}

@@ -1,43 +1,17 @@
 -- The laws of a crypt command.
-use Rattle.std.proofs.Common.{◌≡◌, ℕ, List, [], ◌∷◌, Some, refl, subst, arith}
-use Rattle.std.specs.Prelude.{bytes_eq, codes}
-use Rattle.script_lang.specs.Words.{IsWord, Says, hex_values}
-use Rattle.pad_words.specs.Bytes.{unpacked}
-use Rattle.script_lang.specs.Reading.{read_body, read_bytes, read_crypt}
+use Rattle.std.proofs.Common.{◌≡◌, ℕ, List, Some, refl, subst}
+use Rattle.script_lang.specs.Words.{Says}
+use Rattle.script_lang.specs.Reading.{read_crypt}
 use Rattle.script_lang.specs.Spelling.{algorithm_word, body_word, byte_word, crypt_words, direction_word, name_word, start_word}
 use Rattle.pad_steps.specs.declared.commands.CryptRequest.{CryptRequest}
-use Rattle.script_lang.proofs.ByteLaws.{bytes_field}
+use Rattle.script_lang.proofs.ByteLaws.{body_field}
 use Rattle.script_lang.proofs.Fits.{BytesFit, CryptFits, IsByte, NameFits, StartFits}
 use Rattle.script_lang.proofs.HexLaws.{byte_field}
-use Rattle.script_lang.proofs.NameLaws.{name_field, not_dash}
-use Rattle.script_lang.proofs.Readers.{Always, Ended, IsField, Reads, Then, ended_reads, with_field_reads}
+use Rattle.script_lang.proofs.NameLaws.{name_field}
+use Rattle.script_lang.proofs.Readers.{Always, Ended, Reads, Then, ended_reads, with_field_reads}
 use Rattle.script_lang.proofs.RowLaws.{Spelled, says_end}
 use Rattle.script_lang.proofs.StartLaws.{start_field}
-use Rattle.script_lang.proofs.WordLaws.{algorithm_field, direction_field, word_cases}
-
--- ---- bytes, or none
-
-some_body : (text body : List ℕ) → BytesFit 1 1024 body → hex_values text ≡ Some (unpacked body) → BytesFit 0 1024 body × IsWord text (body_word body)
-some_body text [] fits says = absurd (omega (arith, fits.0))
-some_body text (b ∷ bytes) fits says = ((omega arith, fits.1, fits.2), says)
-
-body_again : (text body : List ℕ) → BytesFit 0 1024 body → IsWord text (body_word body) → read_body text ≡ Some body
-unfolding read_body
-body_again text [] fits is = rw is refl
-body_again text (b ∷ bytes) fits says =
-    let found = (bytes_field 1 1024).again text (b ∷ bytes) (omega arith, fits.1, fits.2) says in
-    rw (not_dash (read_bytes 1 1024) text (b ∷ bytes) (bytes_eq text (codes "-")) refl (unfold read_bytes in refl) found, found) refl
-
-body_field : IsField read_body (BytesFit 0 1024) body_word
-unfolding read_body
-body_field = record {
-  takes = λ text body e.
-      word_cases text (codes "-") [] _ body (λ (body : List ℕ). BytesFit 0 1024 body × IsWord text (body_word body)) e (λ is. ((omega arith, omega arith, tt), is)) (λ e.
-      let t = (bytes_field 1 1024).takes text body e in some_body text body t.0 t.1);
-  again = body_again;
-}
-
--- ---- crypt commands
+use Rattle.script_lang.proofs.WordLaws.{algorithm_field, direction_field}
 
 abbrev CryptSaid : CryptRequest → List ℕ → Type 0
 CryptSaid = Then Always algorithm_word (λ a. Then Always direction_word (λ d. Then NameFits name_word (λ key. Then StartFits start_word (λ start. Then IsByte byte_word (λ pad. Then (BytesFit 0 1024) body_word (λ body.

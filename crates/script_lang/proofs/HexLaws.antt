@@ -6,7 +6,7 @@ use Rattle.std.proofs.lemmas.Bool.{eqb-true}
 use Rattle.script_lang.specs.Words.{hex_value, hex_values, with_value}
 use Rattle.pad_words.specs.Bytes.{unpacked}
 use Rattle.script_lang.specs.Reading.{◌>>=◌, digits_onto, hex_number, read_byte, read_mask, read_uses}
-use Rattle.script_lang.specs.Spelling.{byte_word, mask_word, four_values, eight_values, uses_word}
+use Rattle.script_lang.specs.Spelling.{byte_word, mask_values, mask_word, four_values, eight_values, uses_word}
 use Rattle.script_lang.proofs.Fits.{IsByte, IsNibble, MaskFits, UsesFit}
 use Rattle.script_lang.proofs.Options.{bind_some, guard_some, some_is}
 use Rattle.script_lang.proofs.Readers.{IsField}
@@ -114,7 +114,7 @@ halves a b c d len e =
     (sym (take_at a b (length c) len) ∙ ap (take (length c)) e ∙ take_at c d (length c) refl, sym (drop_at a b (length c) len) ∙ ap (drop (length c)) e ∙ drop_at c d (length c) refl)
 
 pub mask_field : IsField read_mask MaskFits mask_word
-unfolding read_mask
+unfolding read_mask mask_values
 mask_field = record {
   takes = λ text m e.
       let g = guard_some (eqb (length text) 16) _ m e in

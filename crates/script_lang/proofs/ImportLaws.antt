@@ -13,7 +13,7 @@ use Rattle.script_lang.proofs.Fits.{BytesFit, ImportFits, NameFits, SourceFits, 
 use Rattle.script_lang.proofs.HexLaws.{uses_field}
 use Rattle.script_lang.proofs.NameLaws.{name_field}
 use Rattle.script_lang.proofs.Readers.{Always, Ended, Reads, Then, ended_reads, with_field_reads}
-use Rattle.script_lang.proofs.RowLaws.{After, RowTakes, Spelled, row_at, row_never, rows_take, says_end}
+use Rattle.script_lang.proofs.RowLaws.{After, RowTakes, Spelled, row_at, rows_take, says_end}
 use Rattle.script_lang.proofs.WordLaws.{source_kind_field, verify_field}
 
 -- ---- the uses and the check mode behind a source
@@ -62,7 +62,9 @@ rows_take_sources name source_kind.Sealed = λ bytes r e.
     let source : ImportSource = origin.Sealed k.0 s.0 in
     let t = sourced_says name source r s.2 (k.1, s.1) s.4 in
     (t.0, after_source (source_kind_word source_kind.Sealed) bytes r source t.1 (refl, (k.2, k.3, (s.2, s.3, t.2))))
-rows_take_sources name source_kind.Part = row_never (NamedFits name) sourced_words (source_kind_word source_kind.Part)
+rows_take_sources name source_kind.Part = λ bytes r e.
+    let t = sourced_says name origin.Part r bytes tt ((sourced_reads name origin.Part).takes bytes r e) in
+    (t.0, after_source (source_kind_word source_kind.Part) bytes r origin.Part t.1 (refl, t.2))
 
 source_again : (r : ImportRequest) (s : ImportSource) (bytes : List ℕ) → SourceFits s → UsesFit r.uses → Says bytes (source_words s ++ uses_word r.uses ∷ verify_word r.verify ∷ [])
     → with_field read_source_kind (source_after r.name) bytes ≡ Some (record { name = r.name; source = s; uses = r.uses; verify = r.verify })
@@ -75,7 +77,10 @@ source_again r (origin.Sealed key value) bytes fits small h =
     let s = h.2.2 in
     row_at read_source_kind source_kind_word (source_after r.name) source_kind_field source_kind.Sealed (name_word key ∷ bytes_word value ∷ uses_word r.uses ∷ verify_word r.verify ∷ []) bytes h
     ∙ (sealed_reads r.name).again h.0 m (key, fits.0, h.2.0, h.2.1, (value, fits.1, s.0, s.1, says_sourced m s.0 small s.2))
-source_again r origin.Part bytes fits small h = absurd fits
+source_again r origin.Part bytes fits small h =
+    let m : ImportRequest = record { name = r.name; source = origin.Part; uses = r.uses; verify = r.verify } in
+    row_at read_source_kind source_kind_word (source_after r.name) source_kind_field source_kind.Part (uses_word r.uses ∷ verify_word r.verify ∷ []) bytes h
+    ∙ (sourced_reads r.name origin.Part).again h.0 m (says_sourced m h.0 small h.2)
 
 source_reads : (name : List ℕ) → Reads (with_field read_source_kind (source_after name)) (Spelled (NamedFits name) sourced_words)
 source_reads name = record {

@@ -13,6 +13,9 @@ pub mod DigitLemmas
 pub mod ByteLaws
 pub mod Fits
 pub mod PinBlockLaws
+pub mod EntryLaws
+pub mod CheckLaws
+pub mod QuestionLaws
 pub mod ImportLaws
 pub mod StartLaws
 pub mod CryptLaws

@@ -1,15 +1,16 @@
 -- Half bytes: one, and lists of them.
-use Rattle.std.proofs.Common.{◌≡◌, ℕ, List, [], ◌∷◌, length, Some, None, Bool, true, false, cond, eqb, refl, sym, ap, subst, ◌∙◌, arith, inl, inr}
-use Rattle.std.specs.Prelude.{bytes_eq, codes, nat_le, slice_index, ◌&&◌}
+use Rattle.std.proofs.Common.{◌≡◌, ℕ, List, [], ◌∷◌, length, Option, Some, None, Bool, true, false, cond, eqb, refl, sym, ap, subst, ◌∙◌, arith, inl, inr}
+use Rattle.std.specs.Prelude.{IsTrue, bytes_eq, codes, nat_le, slice_index, ◌&&◌}
 use Rattle.std.proofs.lemmas.Bool.{eqb-true}
 use Rattle.std.proofs.lemmas.Bool.Decides.{nat_tests}
-use Rattle.script_lang.specs.Words.{Digits, IsWord, hex_value, hex_values}
-use Rattle.script_lang.specs.Reading.{read_nibble, read_nibbles, read_nibbles_or_dash}
+use Rattle.pad_steps.specs.Accounts.{all_decimal}
+use Rattle.script_lang.specs.Words.{Digits, IsWord, Word, hex_value, hex_values}
+use Rattle.script_lang.specs.Reading.{◌>>=◌, read_nibble, read_nibbles, read_nibbles_or_dash, read_offset, read_table, where_decimal}
 use Rattle.script_lang.specs.Spelling.{nibble_word, nibbles_word}
-use Rattle.script_lang.proofs.Fits.{IsNibble, NibblesFit}
+use Rattle.script_lang.proofs.Fits.{DecimalsFit, IsNibble, NibblesFit}
 use Rattle.script_lang.proofs.HexLaws.{digits_len, digits_more, digits_small, hex_value-small}
 use Rattle.script_lang.proofs.NameLaws.{not_dash}
-use Rattle.script_lang.proofs.Options.{both_true, cases_some, guard_some, same_bytes, some_is}
+use Rattle.script_lang.proofs.Options.{bind_some, both_true, cases_some, chosen_some, guard_some, same_bytes, some_is}
 use Rattle.script_lang.proofs.Readers.{IsField}
 
 one_takes : (text : List ℕ) (v : ℕ) → length text ≡ 1 → hex_value (slice_index text 0) ≡ Some v → IsNibble v × (hex_values text ≡ Some (v ∷ []))
@@ -80,3 +81,26 @@ nibbles_or_dash_field high = record {
       ];
   again = dash_again high;
 }
+
+-- ---- decimal digits
+
+decimal_some : (values : List ℕ) → all_decimal values ≡ true → where_decimal values ≡ Some values
+decimal_some values e = rw e refl
+
+decimal_field : (f : List ℕ → Option (List ℕ)) (F : List ℕ → Type 0) (word : List ℕ → Word) → IsField f F word → IsField (λ text. f text >>= where_decimal) (λ vs. F vs × IsTrue (all_decimal vs)) word
+decimal_field f F word field = record {
+  takes = λ text vs e.
+      let m = bind_some (f text) where_decimal vs e in
+      let g = chosen_some (all_decimal m.0) m.0 vs m.2 in
+      let t = field.takes text m.0 m.1 in
+      subst (λ (vs : List ℕ). (F vs × IsTrue (all_decimal vs)) × IsWord text (word vs)) g.1 ((t.0, g.0), t.1);
+  again = λ text vs fits says. ap (λ (o : Option (List ℕ)). o >>= where_decimal) (field.again text vs fits.0 says) ∙ decimal_some vs fits.1;
+}
+
+pub offset_field : IsField read_offset (DecimalsFit 0 16) nibbles_word
+unfolding read_offset
+offset_field = decimal_field (read_nibbles_or_dash 16) (NibblesFit 0 16) nibbles_word (nibbles_or_dash_field 16)
+
+pub table_field : IsField read_table (DecimalsFit 16 16) Digits
+unfolding read_table
+table_field = decimal_field (read_nibbles 16 16) (NibblesFit 16 16) Digits (nibbles_field 16 16)

@@ -107,3 +107,17 @@ session_field = record {
 
 pub digits_decimal_all : (n : ℕ) → n < 2 ^ 64 → all_ascii_digits (decimal n) ≡ true
 digits_decimal_all n small = digits_decimal own n small
+
+-- ---- ranges of the grammar
+
+pub byte_number_field : IsField (read_number 0 255) (Within 0 255) number_word
+byte_number_field = number_field 0 255 (omega arith)
+
+pub limit_field : IsField (read_number 0 1000000) (Within 0 1000000) number_word
+limit_field = number_field 0 1000000 (omega arith)
+
+pub ticks_field : IsField (read_number 1 1000000) (Within 1 1000000) number_word
+ticks_field = number_field 1 1000000 (omega arith)
+
+pub id_field : IsField (read_number 0 4294967295) (Within 0 4294967295) number_word
+id_field = number_field 0 4294967295 (omega arith)

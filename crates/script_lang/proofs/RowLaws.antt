@@ -1,12 +1,13 @@
 -- Rows by their first word.
-use Rattle.std.proofs.Common.{◌≡◌, ℕ, List, [], ◌∷◌, ◌++◌, None, Option, Some, refl, sym, ap, subst, ◌∙◌}
+use Rattle.std.proofs.Common.{◌≡◌, ℕ, List, [], ◌∷◌, ◌++◌, Option, Some, refl, sym, ap, subst, ◌∙◌}
 use Rattle.std.specs.Prelude.{IsTrue}
 use Rattle.std.specs.List.{list_all}
 use Rattle.script_lang.specs.Words.{Word, IsWord, Says, is_no_space}
-use Rattle.script_lang.specs.Reading.{◌>>=◌, next_word, with_field, ended}
+use Rattle.script_lang.specs.Reading.{◌>>=◌, alone, next_word, with_field, ended}
+use Rattle.std.specs.Option.{option_map}
 use Rattle.script_lang.proofs.Fronts.{IsEnd, next_word-takes}
-use Rattle.script_lang.proofs.Options.{bind_some}
-use Rattle.script_lang.proofs.Readers.{Always, IsField, ended_reads, first_ends, next_word-first, one_reads, two_reads}
+use Rattle.script_lang.proofs.Options.{bind_some, mapped_some}
+use Rattle.script_lang.proofs.Readers.{Always, IsField, Reads, ended_reads, first_ends, next_word-first, one_reads, two_reads}
 
 -- the words begin with this one, and the bytes are the others
 abbrev pub After : Word → List ℕ → List Word → Type 0
@@ -45,10 +46,24 @@ module _ {V B : Type 0} (read : List ℕ → Option V) (word : V → Word) (rows
       ap (λ (o : Option (List ℕ × List ℕ)). o >>= λ w. read w.0 >>= λ verb. rows verb w.1) (next_word-first bytes (word verb) s.0 s.1 (says_end ws s.0 s.2))
       ∙ ap (λ (o : Option V). o >>= λ verb. rows verb s.0) (first.again s.1.text verb tt s.1.spelled)
 
--- ---- rows that read nothing, no field, one, two
+-- a field, to the line's end
+pub alone_reads : {A : Type 0} (f : List ℕ → Option A) (F : A → Type 0) (word : A → Word) → IsField f F word → Reads (alone f) (Spelled F (λ a. word a ∷ []))
+alone_reads {A} f F word field = record {
+  takes = λ bytes a e.
+      let s = (one_reads f F word (λ (a : A). a) field).takes bytes a e in
+      subst (λ a. Spelled F (λ a. word a ∷ []) a bytes) s.4.0 (s.1, (s.2, s.3, s.4.1));
+  again = λ bytes a s. (one_reads f F word (λ (a : A). a) field).again bytes a (a, s.0, s.1.0, s.1.1, (refl, s.1.2));
+  ends = λ bytes a s. says_end (word a ∷ []) bytes s.1;
+}
 
-pub row_never : {B : Type 0} (Fits : B → Type 0) (words : B → List Word) (first : Word) → RowTakes Fits words first (λ bytes. None)
-row_never Fits words first bytes y e = absurd cc
+-- ---- rows that read a part, no field, one, two
+
+pub row_mapped : {A B : Type 0} (read : List ℕ → Option A) (F : A → Type 0) (parts : A → List Word) (make : A → B) (Fits : B → Type 0) (words : B → List Word) (first : Word) → Reads read (Spelled F parts)
+    → ((x : A) → F x → Fits (make x)) → ((x : A) → words (make x) ≡ first ∷ parts x) → RowTakes Fits words first (λ bytes. option_map make (read bytes))
+row_mapped read F parts make Fits words first reads fits is bytes y e =
+    let x = mapped_some (read bytes) make y e in
+    let s = reads.takes bytes x.0 x.1 in
+    subst (λ y. Fits y × After first bytes (words y)) x.2 (fits x.0 s.0, rw (is x.0) (refl, s.1))
 
 pub row_none : {B : Type 0} (Fits : B → Type 0) (words : B → List Word) (first : Word) (x : B) → Fits x → words x ≡ first ∷ [] → RowTakes Fits words first (ended x)
 row_none Fits words first x fits is bytes y e =

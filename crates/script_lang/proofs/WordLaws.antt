@@ -12,6 +12,7 @@ use Rattle.pad_steps.specs.declared.steps.Classes.{Classes}
 use Rattle.script_lang.specs.contracts.kinds.CommandVerb.{the_type as command_verb_type}
 use Rattle.script_lang.specs.contracts.kinds.KeepVerb.{the_type as keep_verb_type}
 use Rattle.script_lang.specs.contracts.kinds.LineVerb.{the_type as line_verb_type}
+use Rattle.script_lang.specs.contracts.kinds.QuestionVerb.{the_type as question_verb_type}
 use Rattle.script_lang.specs.contracts.kinds.SourceKind.{the_type as source_kind_type}
 use Rattle.pad_words.specs.declared.Direction.{Direction}
 use Rattle.pad_steps.specs.declared.commands.Algorithm.{Algorithm}
@@ -19,13 +20,14 @@ use Rattle.pad_steps.specs.declared.commands.Form.{Form}
 use Rattle.pad_steps.specs.declared.commands.Verify.{Verify}
 use Rattle.script_lang.specs.declared.kinds.CommandVerb.{CommandVerb}
 use Rattle.script_lang.specs.declared.kinds.LineVerb.{LineVerb}
+use Rattle.script_lang.specs.declared.kinds.QuestionVerb.{QuestionVerb}
 use Rattle.script_lang.specs.declared.kinds.SourceKind.{SourceKind}
 use Rattle.std.specs.List.{list_all}
 use Rattle.spelled_words.specs.TableLaws.{Agrees-from_rows, covers, covers_agree, covers_all, word_passes}
 use Rattle.spelled_words.specs.Tables.{Agrees, has_word, value_of, word_of}
-use Rattle.script_lang.specs.Words.{Exact, algorithm_text, algorithm_words, classes_text, classes_words, command_verb_text, command_verbs, direction_text, direction_words, end_text, end_words, form_text, form_words, is_no_space, keep_verb_text, keep_verbs, line_verb_text, line_verbs, same_classes, source_kind_text, source_kinds, verify_text, verify_words}
-use Rattle.script_lang.specs.Reading.{read_algorithm, read_classes, read_command_verb, read_direction, read_end, read_form, read_keep_verb, read_line_verb, read_source_kind, read_verify}
-use Rattle.script_lang.specs.Spelling.{algorithm_word, classes_word, command_verb_word, direction_word, end_word, form_word, keep_verb_word, line_verb_word, source_kind_word, verify_word}
+use Rattle.script_lang.specs.Words.{Exact, algorithm_text, algorithm_words, classes_text, classes_words, command_verb_text, command_verbs, direction_text, direction_words, end_text, end_words, form_text, form_words, is_no_space, keep_verb_text, keep_verbs, line_verb_text, line_verbs, question_verb_text, question_verbs, same_classes, source_kind_text, source_kinds, switch_text, switch_words, verify_text, verify_words, zero_text, zero_words}
+use Rattle.script_lang.specs.Reading.{read_algorithm, read_classes, read_command_verb, read_direction, read_end, read_form, read_keep_verb, read_line_verb, read_question_verb, read_source_kind, read_switch, read_verify, read_zero}
+use Rattle.script_lang.specs.Spelling.{algorithm_word, classes_word, command_verb_word, direction_word, end_word, form_word, keep_verb_word, line_verb_word, question_verb_word, source_kind_word, switch_word, verify_word, zero_word}
 use Rattle.script_lang.proofs.Options.{both_true, cases_some, same_bytes, some_is}
 use Rattle.script_lang.proofs.Readers.{Always, IsField, Prints}
 
@@ -71,6 +73,30 @@ end_field = word_field beq end_words (Agrees-from_rows beq end_words beq-equal r
 pub end_prints : (auto_end : Bool) → Prints (end_word auto_end)
 unfolding end_text
 end_prints = word_prints beq end_words end_has_word refl
+
+switch_has_word : (on : Bool) → IsTrue (has_word beq switch_words on)
+switch_has_word true = refl
+switch_has_word false = refl
+
+pub switch_field : IsField read_switch Always switch_word
+unfolding read_switch switch_text
+switch_field = word_field beq switch_words (Agrees-from_rows beq switch_words beq-equal refl) switch_has_word
+
+pub switch_prints : (on : Bool) → Prints (switch_word on)
+unfolding switch_text
+switch_prints = word_prints beq switch_words switch_has_word refl
+
+zero_has_word : (no_zero : Bool) → IsTrue (has_word beq zero_words no_zero)
+zero_has_word true = refl
+zero_has_word false = refl
+
+pub zero_field : IsField read_zero Always zero_word
+unfolding read_zero zero_text
+zero_field = word_field beq zero_words (Agrees-from_rows beq zero_words beq-equal refl) zero_has_word
+
+pub zero_prints : (no_zero : Bool) → Prints (zero_word no_zero)
+unfolding zero_text
+zero_prints = word_prints beq zero_words zero_has_word refl
 
 same_classes-equal : (a b : Classes) → same_classes a b ≡ true → a ≡ b
 same_classes-equal a b e =
@@ -145,6 +171,14 @@ command_verb_field = enum_field command_verb_type command_verbs tt refl
 pub command_verb_prints : (verb : CommandVerb) → Prints (command_verb_word verb)
 unfolding command_verb_text
 command_verb_prints = enum_prints command_verb_type command_verbs refl refl
+
+pub question_verb_field : IsField read_question_verb Always question_verb_word
+unfolding read_question_verb question_verb_text
+question_verb_field = enum_field question_verb_type question_verbs tt refl
+
+pub question_verb_prints : (verb : QuestionVerb) → Prints (question_verb_word verb)
+unfolding question_verb_text
+question_verb_prints = enum_prints question_verb_type question_verbs refl refl
 
 pub source_kind_field : IsField read_source_kind Always source_kind_word
 unfolding read_source_kind source_kind_text

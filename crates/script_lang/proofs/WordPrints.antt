@@ -15,7 +15,7 @@ use Rattle.key_source.specs.declared.Mask.{Mask}
 use Rattle.pad_steps.specs.declared.commands.Start.{Start}
 use Rattle.pad_steps.specs.declared.commands.Start.TheVariants as started
 use Rattle.script_lang.specs.Words.{Digits, Says, Tagged, Word, hex_digit, hex_value, hex_values, is_no_space, spaced, word_text}
-use Rattle.script_lang.specs.Spelling.{block_word, body_word, byte_word, bytes_word, eight_values, four_values, key_word, mask_word, name_word, nibbles_word, number_word, optional_word, start_word, uses_word}
+use Rattle.script_lang.specs.Spelling.{block_word, body_word, byte_word, bytes_word, eight_values, four_values, key_word, mask_values, mask_word, name_word, nibbles_word, number_word, optional_word, start_word, uses_word}
 use Rattle.script_lang.proofs.Fits.{BlockFits, IsByte, IsNibble, KeyFits, MaskFits, NameFits, OptionFits, StartFits, UsesFit}
 use Rattle.script_lang.proofs.NumberLaws.{digits_decimal_all}
 use Rattle.script_lang.proofs.Options.{both_true}
@@ -70,6 +70,7 @@ eight_values_small : (n : ℕ) → n < 2 ^ 32 → AllByRecursion IsNibble (eight
 eight_values_small n small = all_append IsNibble (four_values (n / 65536)) (four_values (n % 65536)) (four_values_small (n / 65536) (omega (arith, small))) (four_values_small (n % 65536) (omega arith))
 
 pub mask_prints : (m : Mask) → MaskFits m → Prints (mask_word m)
+unfolding mask_values
 mask_prints m fits = digits_print (eight_values m.keys ++ eight_values m.fdks) (all_append IsNibble (eight_values m.keys) (eight_values m.fdks) (eight_values_small m.keys fits.0) (eight_values_small m.fdks fits.1))
 
 pub key_prints : (k : Key) → KeyFits k → Prints (key_word k)

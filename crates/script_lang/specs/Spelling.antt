@@ -1,5 +1,5 @@
 -- The words of each line, and the text that is printed of a step.
-use Rattle.std.specs.Prelude.{Bool, IsTrue, List, None, Option, Some, [], codes, if◌then◌else◌, nat_le, nat_lt, true, ℕ, ◌%◌, ◌&&◌, ◌++◌, ◌/◌, ◌∷◌}
+use Rattle.std.specs.Prelude.{Bool, IsTrue, List, None, Option, Some, [], codes, if◌then◌else◌, length, nat_le, nat_lt, true, ℕ, ◌%◌, ◌&&◌, ◌++◌, ◌/◌, ◌==◌, ◌∷◌}
 use Rattle.std.specs.Fmt.{decimal}
 use Rattle.disk_core.specs.declared.disk.Keep.{Keep}
 use Rattle.disk_core.specs.declared.disk.Keep.TheVariants as kept
@@ -16,8 +16,10 @@ use Rattle.pad_steps.specs.declared.commands.Algorithm.{Algorithm}
 use Rattle.pad_steps.specs.declared.commands.BlockRequest.{BlockRequest}
 use Rattle.pad_steps.specs.declared.commands.Command.{Command}
 use Rattle.pad_steps.specs.declared.commands.Command.TheVariants as command
+use Rattle.pad_steps.specs.declared.commands.CheckRequest.{CheckRequest}
 use Rattle.pad_steps.specs.declared.commands.CryptRequest.{CryptRequest}
 use Rattle.pad_steps.specs.declared.commands.EntryRules.{EntryRules}
+use Rattle.pad_steps.specs.declared.commands.ExtraRequest.{ExtraRequest}
 use Rattle.pad_steps.specs.declared.commands.Form.{Form}
 use Rattle.pad_steps.specs.declared.commands.ImportRequest.{ImportRequest}
 use Rattle.pad_steps.specs.declared.commands.ImportSource.{ImportSource}
@@ -33,7 +35,7 @@ use Rattle.pad_steps.specs.declared.steps.Question.{Question}
 use Rattle.pad_steps.specs.declared.steps.Question.TheVariants as question
 use Rattle.pad_steps.specs.declared.steps.Step.{Step}
 use Rattle.pad_steps.specs.declared.steps.Step.TheVariants as step
-use Rattle.pad_steps.specs.Today.{is_line_today}
+use Rattle.pad_steps.specs.Formed.{is_well_formed}
 use Rattle.script_lang.specs.declared.kinds.Line.{Line}
 use Rattle.script_lang.specs.declared.kinds.Line.TheVariants as line
 use Rattle.script_lang.specs.declared.kinds.CommandVerb.{CommandVerb}
@@ -42,9 +44,11 @@ use Rattle.script_lang.specs.declared.kinds.KeepVerb.{KeepVerb}
 use Rattle.script_lang.specs.declared.kinds.KeepVerb.TheVariants as keep_verb
 use Rattle.script_lang.specs.declared.kinds.LineVerb.{LineVerb}
 use Rattle.script_lang.specs.declared.kinds.LineVerb.TheVariants as line_verb
+use Rattle.script_lang.specs.declared.kinds.QuestionVerb.{QuestionVerb}
+use Rattle.script_lang.specs.declared.kinds.QuestionVerb.TheVariants as question_verb
 use Rattle.script_lang.specs.declared.kinds.SourceKind.{SourceKind}
 use Rattle.script_lang.specs.declared.kinds.SourceKind.TheVariants as source_kind
-use Rattle.script_lang.specs.Words.{Digits, Exact, Says, Tagged, Word, algorithm_text, classes_text, command_verb_text, direction_text, end_text, form_text, joined, keep_verb_text, line_verb_text, source_kind_text, verify_text}
+use Rattle.script_lang.specs.Words.{Digits, Exact, Says, Tagged, Word, algorithm_text, classes_text, command_verb_text, direction_text, end_text, form_text, joined, keep_verb_text, line_verb_text, question_verb_text, source_kind_text, switch_text, verify_text, zero_text}
 
 -- ---- fields
 
@@ -63,9 +67,13 @@ four_values n = n / 4096 ∷ (n / 256) % 16 ∷ (n / 16) % 16 ∷ n % 16 ∷ []
 abbrev pub eight_values : ℕ → List ℕ
 eight_values n = four_values (n / 65536) ++ four_values (n % 65536)
 
--- sixteen hexadecimal digits: the key bits, and then the bits of the function keys
+-- the sixteen half bytes of a mask: the key bits, and then the bits of the function keys
+unfoldable pub mask_values : Mask → List ℕ
+mask_values m = eight_values m.keys ++ eight_values m.fdks
+
+-- sixteen hexadecimal digits
 abbrev pub mask_word : Mask → Word
-mask_word m = Digits (eight_values m.keys ++ eight_values m.fdks)
+mask_word m = Digits (mask_values m)
 
 abbrev pub key_word : Key → Word
 key_word k = Exact (key_text k)
@@ -76,6 +84,12 @@ classes_word classes = Exact (classes_text classes)
 
 abbrev pub end_word : Bool → Word
 end_word auto_end = Exact (end_text auto_end)
+
+abbrev pub switch_word : Bool → Word
+switch_word on = Exact (switch_text on)
+
+abbrev pub zero_word : Bool → Word
+zero_word no_zero = Exact (zero_text no_zero)
 
 abbrev pub verify_word : Verify → Word
 verify_word mode = Exact (verify_text mode)
@@ -89,7 +103,7 @@ algorithm_word a = Exact (algorithm_text a)
 abbrev pub direction_word : Direction → Word
 direction_word d = Exact (direction_text d)
 
--- the first word of a line, of what a cut makes of bytes, of a command and of the source of an import
+-- the first word of a line, of what a cut makes of bytes, of a command, of a question and of the source of an import
 abbrev pub line_verb_word : LineVerb → Word
 line_verb_word verb = Exact (line_verb_text verb)
 
@@ -98,6 +112,9 @@ keep_verb_word verb = Exact (keep_verb_text verb)
 
 abbrev pub command_verb_word : CommandVerb → Word
 command_verb_word verb = Exact (command_verb_text verb)
+
+abbrev pub question_verb_word : QuestionVerb → Word
+question_verb_word verb = Exact (question_verb_text verb)
 
 abbrev pub source_kind_word : SourceKind → Word
 source_kind_word kind = Exact (source_kind_text kind)
@@ -178,17 +195,24 @@ import_words r = name_word r.name ∷ sourced_words r
 abbrev pub crypt_words : CryptRequest → List Word
 crypt_words r = algorithm_word r.algorithm ∷ direction_word r.direction ∷ name_word r.key ∷ start_word r.start ∷ byte_word r.pad ∷ body_word r.body ∷ []
 
+-- the key, the validation data, the padding digit, the offset, the count of digits, whether a first zero is replaced, the table
+abbrev pub check_words : CheckRequest → List Word
+check_words r = name_word r.key ∷ Digits r.validation ∷ nibble_word r.pad ∷ nibbles_word r.offset ∷ number_word r.count ∷ zero_word r.no_zero ∷ Digits r.table ∷ []
+
+-- the kind, the key, the bytes
+abbrev pub extra_words : ExtraRequest → List Word
+extra_words r = number_word r.kind ∷ name_word r.key ∷ body_word r.body ∷ []
+
 abbrev pub pin_words : PinRequest → List Word
 pin_words (pin.Block request) = command_verb_word command_verb.PinBlock ∷ block_words request
--- no line spells these yet
-pin_words (pin.Check request) = []
-pin_words (pin.Extra request) = []
+pin_words (pin.Check request) = command_verb_word command_verb.LocalDes ∷ check_words request
+pin_words (pin.Extra request) = command_verb_word command_verb.Extra ∷ extra_words request
 
 abbrev pub command_words : Command → List Word
 command_words (command.GetPin rules) = command_verb_word command_verb.GetPin ∷ rules_words rules
 command_words (command.GetData rules) = command_verb_word command_verb.GetData ∷ rules_words rules
 command_words (command.SecureKeyEntry rules) = command_verb_word command_verb.KeyEntry ∷ part_words rules
-command_words (command.MaintainPin on) = command_verb_word command_verb.Maintain ∷ Exact (if on then codes "on" else codes "off") ∷ []
+command_words (command.MaintainPin on) = command_verb_word command_verb.Maintain ∷ switch_word on ∷ []
 command_words (command.Pin request) = pin_words request
 command_words (command.ImportKey request) = command_verb_word command_verb.Import ∷ import_words request
 command_words (command.DeleteKey name) = command_verb_word command_verb.Delete ∷ name_word name ∷ []
@@ -200,10 +224,10 @@ command_words (command.Crypt request) = command_verb_word command_verb.Crypt ∷
 -- ---- steps
 
 abbrev pub question_words : Question → List Word
-question_words question.Status = Exact (codes "status") ∷ []
-question_words (question.Key name) = Exact (codes "key") ∷ name_word name ∷ []
-question_words question.Names = Exact (codes "names") ∷ []
-question_words (question.Reply id) = Exact (codes "reply") ∷ number_word id ∷ []
+question_words question.Status = question_verb_word question_verb.Status ∷ []
+question_words (question.Key name) = question_verb_word question_verb.Key ∷ name_word name ∷ []
+question_words question.Names = question_verb_word question_verb.Names ∷ []
+question_words (question.Reply id) = question_verb_word question_verb.Reply ∷ number_word id ∷ []
 
 abbrev pub step_words : Step → List Word
 step_words (step.Open s) = line_verb_word line_verb.Open ∷ session_word s ∷ []
@@ -235,6 +259,7 @@ arming_words call struck.Fail = line_verb_word line_verb.Fail ∷ number_word ca
 arming_words call (struck.Cut keep) = line_verb_word line_verb.Cut ∷ number_word call ∷ keep_words keep
 
 abbrev pub line_words : Line → List Word
+line_words line.Blank = []
 line_words line.Auto = line_verb_word line_verb.Auto ∷ []
 line_words (line.Do s) = step_words s
 line_words (line.Arm call strike) = arming_words call strike
@@ -248,15 +273,26 @@ abbrev pub is_strike : Strike → Bool
 is_strike struck.Fail = true
 is_strike (struck.Cut keep) = is_keep keep
 
--- `auto`, a step that lines spell, or one of the next thousand calls and its strike
+-- nothing, `auto`, a step that lines spell, or one of the next thousand calls and its strike
 abbrev pub is_spelled : Line → Bool
+is_spelled line.Blank = true
 is_spelled line.Auto = true
-is_spelled (line.Do s) = is_line_today s
+is_spelled (line.Do s) = is_well_formed s
 is_spelled (line.Arm call strike) = nat_le 1 call && nat_le call 1000 && is_strike strike
 
--- the bytes, without their line feed, spell this line: its words with one space between two, and nothing else
+-- no byte, or a comment, which begins with `#` and has at most 4,096 bytes; lines of other kinds are shorter
+abbrev pub is_blank : List ℕ → Bool
+is_blank [] = true
+is_blank (c ∷ cs) = (c == 35) && nat_lt (length cs) 4096
+
+-- the bytes are the line's words with one space between two, and nothing else; any comment is a blank line
+abbrev pub LineSays : List ℕ → Line → Type 0
+LineSays bytes line.Blank = IsTrue (is_blank bytes)
+LineSays bytes other = Says (32 ∷ bytes) (line_words other)
+
+-- the bytes, without their line feed, spell this line
 abbrev pub Spells : List ℕ → Line → Type 0
-Spells bytes l = IsTrue (is_spelled l) × Says (32 ∷ bytes) (line_words l)
+Spells bytes l = IsTrue (is_spelled l) × LineSays bytes l
 
 -- ---- printed text
 

@@ -19,6 +19,7 @@ use Rattle.pad_steps.specs.declared.steps.Classes.{Classes}
 use Rattle.script_lang.specs.contracts.kinds.CommandVerb.{the_type as command_verb_type}
 use Rattle.script_lang.specs.contracts.kinds.KeepVerb.{the_type as keep_verb_type}
 use Rattle.script_lang.specs.contracts.kinds.LineVerb.{the_type as line_verb_type}
+use Rattle.script_lang.specs.contracts.kinds.QuestionVerb.{the_type as question_verb_type}
 use Rattle.script_lang.specs.contracts.kinds.SourceKind.{the_type as source_kind_type}
 use Rattle.script_lang.specs.declared.kinds.CommandVerb.{CommandVerb}
 use Rattle.script_lang.specs.declared.kinds.CommandVerb.TheVariants as command_verb
@@ -26,6 +27,8 @@ use Rattle.script_lang.specs.declared.kinds.KeepVerb.{KeepVerb}
 use Rattle.script_lang.specs.declared.kinds.KeepVerb.TheVariants as keep_verb
 use Rattle.script_lang.specs.declared.kinds.LineVerb.{LineVerb}
 use Rattle.script_lang.specs.declared.kinds.LineVerb.TheVariants as line_verb
+use Rattle.script_lang.specs.declared.kinds.QuestionVerb.{QuestionVerb}
+use Rattle.script_lang.specs.declared.kinds.QuestionVerb.TheVariants as question_verb
 use Rattle.script_lang.specs.declared.kinds.SourceKind.{SourceKind}
 use Rattle.script_lang.specs.declared.kinds.SourceKind.TheVariants as source_kind
 use Rattle.spelled_words.specs.Tables.{word_of}
@@ -36,9 +39,12 @@ pub data Word : Type 0 where
   Digits : List ℕ → Word
   Tagged : List ℕ → List ℕ → Word
 
--- the value of a hexadecimal digit; letters stand in upper case
+-- the value of a hexadecimal digit, a letter in either case
 abbrev pub hex_value : ℕ → Option ℕ
-hex_value c = if nat_le 48 c && nat_le c 57 then Some (c - 48) else if nat_le 65 c && nat_le c 70 then Some (c - 55) else None
+hex_value c = if nat_le 48 c && nat_le c 57 then Some (c - 48)
+    else if nat_le 65 c && nat_le c 70 then Some (c - 55)
+    else if nat_le 97 c && nat_le c 102 then Some (c - 87)
+    else None
 
 -- a value in front of others, where all are there
 abbrev pub with_value : Option ℕ → Option (List ℕ) → Option (List ℕ)
@@ -51,7 +57,7 @@ unfoldable pub hex_values : List ℕ → Option (List ℕ)
 hex_values [] = Some []
 hex_values (c ∷ cs) = with_value (hex_value c) (hex_values cs)
 
--- the hexadecimal digit of a value below 16
+-- the hexadecimal digit of a value below 16; a letter is printed in upper case
 abbrev pub hex_digit : ℕ → ℕ
 hex_digit v = if nat_lt v 10 then 48 + v else 55 + v
 
@@ -131,10 +137,23 @@ command_verbs =
     (command_verb.Init, codes "init") ∷
     (command_verb.Reset, codes "reset") ∷
     (command_verb.Rsa, codes "rsa") ∷
-    (command_verb.Crypt, codes "crypt") ∷ []
+    (command_verb.Crypt, codes "crypt") ∷
+    (command_verb.LocalDes, codes "localdes") ∷
+    (command_verb.Extra, codes "extra") ∷ []
 
 unfoldable pub command_verb_text : CommandVerb → List ℕ
 command_verb_text = word_of (sameb command_verb_type) command_verbs
+
+-- the first words of questions
+abbrev pub question_verbs : List (QuestionVerb × List ℕ)
+question_verbs =
+    (question_verb.Status, codes "status") ∷
+    (question_verb.Key, codes "key") ∷
+    (question_verb.Names, codes "names") ∷
+    (question_verb.Reply, codes "reply") ∷ []
+
+unfoldable pub question_verb_text : QuestionVerb → List ℕ
+question_verb_text = word_of (sameb question_verb_type) question_verbs
 
 -- the first words of what a power cut makes of bytes that were not synced
 abbrev pub keep_verbs : List (KeepVerb × List ℕ)
@@ -179,6 +198,24 @@ end_words =
 
 unfoldable pub end_text : Bool → List ℕ
 end_text = word_of beq end_words
+
+-- the words of whether the PIN is kept
+abbrev pub switch_words : List (Bool × List ℕ)
+switch_words =
+    (true, codes "on") ∷
+    (false, codes "off") ∷ []
+
+unfoldable pub switch_text : Bool → List ℕ
+switch_text = word_of beq switch_words
+
+-- the words of whether a first zero is replaced
+abbrev pub zero_words : List (Bool × List ℕ)
+zero_words =
+    (false, codes "lead") ∷
+    (true, codes "nolead") ∷ []
+
+unfoldable pub zero_text : Bool → List ℕ
+zero_text = word_of beq zero_words
 
 -- the words of check modes
 abbrev pub verify_words : List (Verify × List ℕ)

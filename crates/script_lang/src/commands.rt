@@ -1,21 +1,18 @@
 //! Commands read from left to right, to the line's end.
 ghost use Rattle.std.specs.Prelude.{◌≡◌, Err};
 ghost use Rattle.script_lang.specs.declared.kinds.LineFault.TheVariants.{NoMemory};
-ghost use Rattle.script_lang.specs.Reading.{read_rules, read_pinblock, read_sourced, read_import, read_crypt, read_command, Gives};
+ghost use Rattle.script_lang.specs.Reading.{command_after, ended, read_command, read_crypt, read_import, read_only_name, read_only_switch, read_sourced, Gives};
 
 use crate::crypt_fields::{read_body, read_start};
 use crate::cutting::{ended, next_word};
-use crate::digit_fields::{
-    read_byte, read_bytes, read_mask, read_nibble, read_nibbles_or_dash, read_uses,
-};
-use crate::fields::read_number;
+use crate::digit_fields::{read_byte, read_bytes, read_uses};
+use crate::entry_rules::{read_part, read_rules};
 use crate::kinds::{CommandVerb, LineFault, SourceKind};
-use crate::name_fields::{read_name, read_optional_block, read_optional_name};
+use crate::name_fields::read_name;
+use crate::pin_requests::{read_check, read_extra, read_pinblock};
 use crate::verb_fields::{read_command_verb, read_source_kind};
-use crate::word_fields::{read_algorithm, read_direction, read_end, read_form, read_verify};
-use pad_steps::{
-    BlockRequest, Command, CryptRequest, EntryRules, ImportRequest, ImportSource, PinRequest,
-};
+use crate::word_fields::{read_algorithm, read_direction, read_switch, read_verify};
+use pad_steps::{Command, CryptRequest, ImportRequest, ImportSource, PinRequest};
 use pad_words::KeyName;
 use std::alloc::Global;
 
@@ -33,57 +30,37 @@ pub fn present<T: Drop>(found: Option<T>) -> Result<T, LineFault>
     }
 }
 
-// the rules of an entry, to the line's end
-#[tactic(auto, unfolding(crate::specs::Reading::read_rules))]
-fn read_rules(rest: &[u8]) -> Option<EntryRules>
-    ensures { result ≡ read_rules rest.now }
+// this value, where no byte is left
+pub fn at_end<T: Drop>(rest: &[u8], value: T) -> Result<T, LineFault>
+    ensures { Gives result (ended value rest.now) }
 {
-    let (word, rest) = next_word(rest)?;
-    let min = read_number(0, 255, word)?;
-    let (word, rest) = next_word(rest)?;
-    let max = read_number(0, 255, word)?;
-    let (word, rest) = next_word(rest)?;
-    let auto_end = read_end(word)?;
-    let (word, rest) = next_word(rest)?;
-    let active = read_mask(word)?;
-    let (word, rest) = next_word(rest)?;
-    let terminate = read_mask(word)?;
-    ended(rest)?;
-    Some(EntryRules {
-        min: min as u8,
-        max: max as u8,
-        auto_end,
-        active,
-        terminate,
-    })
+    if rest.is_empty() {
+        Ok(value)
+    } else {
+        Err(LineFault::Outside)
+    }
 }
 
-// what a PIN block is made of
-#[tactic(auto, unfolding(crate::specs::Reading::read_pinblock))]
-fn read_pinblock(rest: &[u8]) -> Option<BlockRequest>
-    ensures { result ≡ read_pinblock rest.now }
+// a key's name, to the line's end
+#[tactic(auto, unfolding(crate::specs::Reading::read_only_name))]
+fn read_only_name(rest: &[u8]) -> Option<KeyName>
+    ensures { result ≡ read_only_name rest.now }
 {
     let (word, rest) = next_word(rest)?;
-    let form = read_form(word)?;
-    let (word, rest) = next_word(rest)?;
-    let key = read_name(word)?;
-    let (word, rest) = next_word(rest)?;
-    let second = read_optional_name(word)?;
-    let (word, rest) = next_word(rest)?;
-    let xor = read_optional_block(word)?;
-    let (word, rest) = next_word(rest)?;
-    let customer = read_nibbles_or_dash(24, word)?;
-    let (word, rest) = next_word(rest)?;
-    let pad = read_nibble(word)?;
+    let name = read_name(word)?;
     ended(rest)?;
-    Some(BlockRequest {
-        form,
-        key,
-        second,
-        xor,
-        customer,
-        pad,
-    })
+    Some(name)
+}
+
+// whether the PIN is kept, to the line's end
+#[tactic(auto, unfolding(crate::specs::Reading::read_only_switch))]
+fn read_only_switch(rest: &[u8]) -> Option<bool>
+    ensures { result ≡ read_only_switch rest.now }
+{
+    let (word, rest) = next_word(rest)?;
+    let on = read_switch(word)?;
+    ended(rest)?;
+    Some(on)
 }
 
 // the uses and the check mode behind a source
@@ -125,8 +102,7 @@ fn read_import(alloc: Global, rest: &[u8]) -> Result<ImportRequest, LineFault>
             let value = read_bytes(alloc, 1, MOST_KEY_BYTES, word)?;
             present(read_sourced(name, ImportSource::Sealed(key, value), rest))
         }
-        // no line says a part yet
-        SourceKind::Part => Err(LineFault::Outside),
+        SourceKind::Part => present(read_sourced(name, ImportSource::Part, rest)),
     }
 }
 
@@ -158,48 +134,42 @@ fn read_crypt(alloc: Global, rest: &[u8]) -> Result<CryptRequest, LineFault>
     })
 }
 
+// the command that begins with this verb
+fn read_command_row(alloc: Global, verb: CommandVerb, rest: &[u8]) -> Result<Command, LineFault>
+    ensures { Gives result (command_after verb rest.now) }
+{
+    match verb {
+        CommandVerb::GetPin => Ok(Command::GetPin(present(read_rules(rest))?)),
+        CommandVerb::GetData => Ok(Command::GetData(present(read_rules(rest))?)),
+        CommandVerb::KeyEntry => Ok(Command::SecureKeyEntry(present(read_part(rest))?)),
+        CommandVerb::Maintain => Ok(Command::MaintainPin(present(read_only_switch(rest))?)),
+        CommandVerb::PinBlock => {
+            let request = present(read_pinblock(rest))?;
+            Ok(Command::Pin(PinRequest::Block(request)))
+        }
+        CommandVerb::LocalDes => {
+            let request = present(read_check(rest))?;
+            Ok(Command::Pin(PinRequest::Check(request)))
+        }
+        CommandVerb::Extra => {
+            let request = read_extra(alloc, rest)?;
+            Ok(Command::Pin(PinRequest::Extra(request)))
+        }
+        CommandVerb::Import => Ok(Command::ImportKey(read_import(alloc, rest)?)),
+        CommandVerb::Crypt => Ok(Command::Crypt(read_crypt(alloc, rest)?)),
+        CommandVerb::Delete => Ok(Command::DeleteKey(present(read_only_name(rest))?)),
+        CommandVerb::Init => at_end(rest, Command::Init),
+        CommandVerb::Reset => at_end(rest, Command::Reset),
+        CommandVerb::Rsa => at_end(rest, Command::RsaImport),
+    }
+}
+
 // the command that begins with the next word
 #[tactic(auto, unfolding(crate::specs::Reading::read_command))]
 pub fn read_command(alloc: Global, rest: &[u8]) -> Result<Command, LineFault>
     ensures { Gives result (read_command rest.now) }
 {
     let (word, rest) = present(next_word(rest))?;
-    match present(read_command_verb(word))? {
-        CommandVerb::GetPin => {
-            let rules = present(read_rules(rest))?;
-            Ok(Command::GetPin(rules))
-        }
-        CommandVerb::PinBlock => {
-            let request = present(read_pinblock(rest))?;
-            Ok(Command::Pin(PinRequest::Block(request)))
-        }
-        CommandVerb::Import => {
-            let request = read_import(alloc, rest)?;
-            Ok(Command::ImportKey(request))
-        }
-        CommandVerb::Crypt => {
-            let request = read_crypt(alloc, rest)?;
-            Ok(Command::Crypt(request))
-        }
-        CommandVerb::Delete => {
-            let (word, rest) = present(next_word(rest))?;
-            let name = present(read_name(word))?;
-            present(ended(rest))?;
-            Ok(Command::DeleteKey(name))
-        }
-        CommandVerb::Init => {
-            present(ended(rest))?;
-            Ok(Command::Init)
-        }
-        CommandVerb::Reset => {
-            present(ended(rest))?;
-            Ok(Command::Reset)
-        }
-        CommandVerb::Rsa => {
-            present(ended(rest))?;
-            Ok(Command::RsaImport)
-        }
-        // no line says another command yet
-        _ => Err(LineFault::Outside),
-    }
+    let verb = present(read_command_verb(word))?;
+    read_command_row(alloc, verb, rest)
 }

@@ -1,19 +1,20 @@
-//! Hexadecimal digits: numbers, masks, half bytes and bytes. Letters stand in upper case.
+//! Hexadecimal digits in either case: numbers, masks, half bytes and bytes.
 ghost use Rattle.std.specs.Prelude.{◌≡◌, ◌≤◌, ◌<◌, ◌^◌, ◌*◌, ◌+◌, length, IfSome};
 ghost use Rattle.std.specs.Option.{option_map};
 ghost use Rattle.script_lang.specs.Words.{hex_value, hex_values};
-ghost use Rattle.script_lang.specs.Reading.{hex_number, hex_bytes, read_mask, read_uses, read_byte, read_nibble, read_nibbles, read_nibbles_or_dash, read_bytes, read_block, Gives};
+ghost use Rattle.script_lang.specs.Reading.{hex_number, hex_bytes, read_mask, read_uses, read_byte, read_nibble, read_nibbles, read_nibbles_or_dash, read_offset, read_table, where_decimal, read_bytes, read_block, Gives};
 
 use crate::cutting::is;
 use crate::kinds::LineFault;
 use key_source::Mask;
+use pad_steps::are_decimal;
 use pad_words::{Block, Nibbles, Octets};
 use std::alloc::Global;
 
 /// The greatest number of bytes that one word spells.
 pub const MOST_BYTES: usize = 1024;
 
-// the value of a hexadecimal digit in upper case
+// the value of a hexadecimal digit
 fn hex_value(c: u8) -> Option<u8>
     ensures value { result ≡ hex_value c }
     ensures small { IfSome result (λ v. v < 16) }
@@ -21,6 +22,7 @@ fn hex_value(c: u8) -> Option<u8>
     match c {
         b'0'..=b'9' => Some(c - b'0'),
         b'A'..=b'F' => Some(c - b'A' + 10),
+        b'a'..=b'f' => Some(c - b'a' + 10),
         _ => None,
     }
 }
@@ -106,7 +108,7 @@ fn hex_values(word: &[u8]) -> Option<Nibbles>
 
 // from low to high digits
 #[tactic(auto, unfolding(crate::specs::Reading::read_nibbles))]
-fn read_nibbles(low: usize, high: usize, word: &[u8]) -> Option<Nibbles>
+pub fn read_nibbles(low: usize, high: usize, word: &[u8]) -> Option<Nibbles>
     requires { high ≤ 48 }
     ensures { result ≡ read_nibbles low high word.now }
 {
@@ -128,6 +130,35 @@ pub fn read_nibbles_or_dash(high: usize, word: &[u8]) -> Option<Nibbles>
     } else {
         read_nibbles(1, high, word)
     }
+}
+
+// the values, where all are decimal digits
+fn where_decimal(values: Nibbles) -> Option<Nibbles>
+    ensures { result ≡ where_decimal values }
+{
+    if are_decimal(values.items()) {
+        Some(values)
+    } else {
+        None
+    }
+}
+
+// sixteen decimal digits
+#[tactic(auto, unfolding(crate::specs::Reading::read_table))]
+pub fn read_table(word: &[u8]) -> Option<Nibbles>
+    ensures { result ≡ read_table word.now }
+{
+    let values = read_nibbles(16, 16, word)?;
+    where_decimal(values)
+}
+
+// at most sixteen decimal digits, or `-` for none
+#[tactic(auto, unfolding(crate::specs::Reading::read_offset))]
+pub fn read_offset(word: &[u8]) -> Option<Nibbles>
+    ensures { result ≡ read_offset word.now }
+{
+    let values = read_nibbles_or_dash(16, word)?;
+    where_decimal(values)
 }
 
 // the byte of two half bytes, the left one first

@@ -5,6 +5,8 @@ use pad_steps::Step;
 /// A line of a script.
 #[derive(Drop)]
 pub enum Line {
+    /// No step: the line is empty, or a comment that begins with `#`.
+    Blank,
     /// The steps that are due, one after the other, until none is.
     Auto,
     /// One step.
@@ -58,6 +60,17 @@ pub enum CommandVerb {
     Reset,
     Rsa,
     Crypt,
+    LocalDes,
+    Extra,
+}
+
+/// The first word of a question.
+#[derive(Clone, Copy, Debug, PartialEq, Eq)]
+pub enum QuestionVerb {
+    Status,
+    Key,
+    Names,
+    Reply,
 }
 
 /// The first word of what a power cut makes of bytes that were not synced.

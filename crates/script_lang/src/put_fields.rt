@@ -2,7 +2,7 @@
 ghost use Rattle.std.specs.Prelude.{◌≡◌, ◌++◌, ◌∷◌, ◌<◌, All, map, OnOk};
 ghost use Rattle.std.specs.Fmt.{decimal};
 ghost use Rattle.pad_words.specs.Bytes.{unpacked};
-ghost use Rattle.script_lang.specs.Words.{hex_digit, word_text};
+ghost use Rattle.script_lang.specs.Words.{hex_digit, word_text, Digits};
 ghost use Rattle.script_lang.specs.Spelling.{four_values, mask_word, name_word, optional_word, bytes_word, block_word, nibble_word, nibbles_word, uses_word, start_word, byte_word, body_word};
 
 use crate::writing::{hex_digit, write_number, write_word};
@@ -38,6 +38,7 @@ fn put_four_digits(n: u32, text: &mut Octets) -> Result<(), NoMemory>
 }
 
 // a space, and the mask
+#[tactic(auto, unfolding(crate::specs::Spelling::mask_values))]
 pub fn put_mask(mask: &Mask, text: &mut Octets) -> Result<(), NoMemory>
     ensures { OnOk result (text.new ≡ text.old ++ 32 ∷ word_text (mask_word mask.now)) }
 {
@@ -124,16 +125,21 @@ fn put_digits(values: &[u8], text: &mut Octets) -> Result<(), NoMemory>
     Ok(())
 }
 
+// a space, and a digit for each value
+pub fn put_figures(values: &Nibbles, text: &mut Octets) -> Result<(), NoMemory>
+    ensures { OnOk result (text.new ≡ text.old ++ 32 ∷ word_text (Digits values.now)) }
+{
+    text.push(b' ')?;
+    put_digits(values.items(), text)
+}
+
 // a space, and a digit for each value, or `-` where there is none
 pub fn put_nibbles(values: &Nibbles, text: &mut Octets) -> Result<(), NoMemory>
     ensures { OnOk result (text.new ≡ text.old ++ 32 ∷ word_text (nibbles_word values.now)) }
 {
     match values.items() {
         [] => write_word(" -", text),
-        digits => {
-            text.push(b' ')?;
-            put_digits(digits, text)
-        }
+        _ => put_figures(values, text),
     }
 }
 

@@ -1,108 +1,57 @@
 //! Lines read from left to right, word by word.
 ghost use Rattle.std.specs.Prelude.{◌≡◌, IfOk, Err};
-ghost use Rattle.script_lang.specs.Reading.{line_after, line_of, read_keep, Gives};
-ghost use Rattle.script_lang.specs.Spelling.{is_keep, is_spelled, is_strike, Spells};
+ghost use Rattle.script_lang.specs.Reading.{line_after, line_of, Gives};
+ghost use Rattle.script_lang.specs.Spelling.{is_blank, is_keep, is_spelled, is_strike, Spells};
 ghost use Rattle.script_lang.specs.declared.kinds.Line.{Line};
 ghost use Rattle.script_lang.specs.declared.kinds.LineFault.TheVariants.{Outside};
 
-use crate::commands::{present, read_command};
-use crate::cutting::{ended, next_word, word_len};
-use crate::digit_fields::read_byte;
-use crate::fields::{read_number, read_session};
-use crate::kinds::{KeepVerb, Line, LineFault, LineVerb};
-use crate::verb_fields::{read_keep_verb, read_line_verb};
-use crate::word_fields::read_classes;
+use crate::commands::{at_end, present};
+use crate::cutting::word_len;
+use crate::kinds::{Line, LineFault, LineVerb};
+use crate::line_rows::{
+    LAST_CALL, read_ask, read_cancel, read_cut, read_fail, read_listen, read_only_session,
+    read_press, read_submit, read_tick,
+};
+use crate::verb_fields::read_line_verb;
 use disk_core::{Keep, Strike};
-use key_source::Key;
 use pad_steps::Step;
 use std::alloc::Global;
 
-/// The greatest number of a call that a line arms.
-const LAST_CALL: u32 = 1000;
-
-// what a power cut makes of bytes that were not synced, to the line's end
-#[tactic(auto, unfolding(crate::specs::Reading::read_keep))]
-fn read_keep(rest: &[u8]) -> Option<Keep>
-    ensures { result ≡ read_keep rest.now }
-{
-    let (word, rest) = next_word(rest)?;
-    match read_keep_verb(word)? {
-        KeepVerb::Old => {
-            ended(rest)?;
-            Some(Keep::Old)
-        }
-        KeepVerb::New => {
-            ended(rest)?;
-            Some(Keep::New)
-        }
-        KeepVerb::Fill => {
-            let (word, rest) = next_word(rest)?;
-            let byte = read_byte(word)?;
-            ended(rest)?;
-            Some(Keep::Fill(byte))
-        }
-    }
-}
+/// The most bytes of a line, without its line feed.
+const LONGEST_LINE: usize = 4096;
 
 // the line that begins with this verb
 fn read_row(alloc: Global, verb: LineVerb, rest: &[u8]) -> Result<Line, LineFault>
     ensures { Gives result (line_after verb rest.now) }
 {
     match verb {
-        LineVerb::Auto => {
-            present(ended(rest))?;
-            Ok(Line::Auto)
-        }
-        LineVerb::Open => {
-            let (word, rest) = present(next_word(rest))?;
-            let session = present(read_session(word))?;
-            present(ended(rest))?;
-            Ok(Line::Do(Step::Open(session)))
-        }
-        LineVerb::Listen => {
-            let (word, rest) = present(next_word(rest))?;
-            let session = present(read_session(word))?;
-            let (word, rest) = present(next_word(rest))?;
-            let classes = present(read_classes(word))?;
-            present(ended(rest))?;
-            Ok(Line::Do(Step::Listen(session, classes)))
-        }
-        LineVerb::Submit => {
-            let (word, rest) = present(next_word(rest))?;
-            let session = present(read_session(word))?;
-            let (word, rest) = present(next_word(rest))?;
-            let limit = present(read_number(0, 1_000_000, word))?;
-            let command = read_command(alloc, rest)?;
-            Ok(Line::Do(Step::Submit(session, limit, command)))
-        }
-        LineVerb::Press => {
-            let (word, rest) = present(next_word(rest))?;
-            let key = present(Key::read(word))?;
-            present(ended(rest))?;
-            Ok(Line::Do(Step::Press(key)))
-        }
-        LineVerb::Off => {
-            present(ended(rest))?;
-            Ok(Line::Do(Step::Off))
-        }
-        LineVerb::Boot => {
-            present(ended(rest))?;
-            Ok(Line::Do(Step::Boot))
-        }
-        LineVerb::Cut => {
-            let (word, rest) = present(next_word(rest))?;
-            let call = present(read_number(1, LAST_CALL, word))?;
-            let keep = present(read_keep(rest))?;
-            Ok(Line::Arm(call, Strike::Cut(keep)))
-        }
-        LineVerb::Fail => {
-            let (word, rest) = present(next_word(rest))?;
-            let call = present(read_number(1, LAST_CALL, word))?;
-            present(ended(rest))?;
-            Ok(Line::Arm(call, Strike::Fail))
-        }
-        // no line is read by another verb yet
-        _ => Err(LineFault::Outside),
+        LineVerb::Auto => at_end(rest, Line::Auto),
+        LineVerb::Open => Ok(Line::Do(Step::Open(present(read_only_session(rest))?))),
+        LineVerb::Close => Ok(Line::Do(Step::Close(present(read_only_session(rest))?))),
+        LineVerb::Listen => present(read_listen(rest)),
+        LineVerb::Lock => Ok(Line::Do(Step::Lock(present(read_only_session(rest))?))),
+        LineVerb::Unlock => Ok(Line::Do(Step::Unlock(present(read_only_session(rest))?))),
+        LineVerb::Submit => read_submit(alloc, rest),
+        LineVerb::Cancel => present(read_cancel(rest)),
+        LineVerb::Begin => at_end(rest, Line::Do(Step::Begin)),
+        LineVerb::Finish => at_end(rest, Line::Do(Step::Finish)),
+        LineVerb::Press => present(read_press(rest)),
+        LineVerb::Tick => present(read_tick(rest)),
+        LineVerb::Ask => present(read_ask(rest)),
+        LineVerb::Off => at_end(rest, Line::Do(Step::Off)),
+        LineVerb::Boot => at_end(rest, Line::Do(Step::Boot)),
+        LineVerb::Cut => present(read_cut(rest)),
+        LineVerb::Fail => present(read_fail(rest)),
+    }
+}
+
+// whether the line is empty or a comment
+fn is_blank(bytes: &[u8]) -> bool
+    ensures { result ≡ is_blank bytes.now }
+{
+    match bytes {
+        [] => true,
+        [first, rest @ ..] => *first == b'#' && rest.len() < LONGEST_LINE,
     }
 }
 
@@ -126,13 +75,13 @@ fn is_strike(strike: &Strike) -> bool
     }
 }
 
-// whether the line is `auto`, a step that a line of the script spells, or a call that a line can arm
+// whether the line is blank, `auto`, a step that a line of the script spells, or a call that a line can arm
 fn is_spelled(line: &Line) -> bool
     ensures { result ≡ is_spelled line.now }
 {
     match line {
-        Line::Auto => true,
-        Line::Do(step) => step.is_line_today(),
+        Line::Blank | Line::Auto => true,
+        Line::Do(step) => step.is_well_formed(),
         Line::Arm(call, strike) => 1 <= *call && *call <= LAST_CALL && is_strike(strike),
     }
 }
@@ -142,6 +91,9 @@ fn is_spelled(line: &Line) -> bool
 fn read_spelled(alloc: Global, bytes: &[u8]) -> Result<Line, LineFault>
     ensures { Gives result (line_of bytes.now) }
 {
+    if is_blank(bytes) {
+        return Ok(Line::Blank);
+    }
     let (word, rest) = bytes.split_at(word_len(bytes));
     let verb = present(read_line_verb(word))?;
     let line = read_row(alloc, verb, rest)?;
@@ -153,7 +105,7 @@ fn read_spelled(alloc: Global, bytes: &[u8]) -> Result<Line, LineFault>
 }
 
 /// What a line says, its bytes without the line feed. `Outside` exactly where no line is spelled so.
-/// It takes time in proportion to the line's length, and memory for the bytes of an import or of a crypt command alone.
+/// It takes time in proportion to the line's length, and memory for the bytes of an import, of a crypt command or of another PIN command alone.
 pub fn read_line(alloc: Global, line: &[u8]) -> Result<Line, LineFault>
     ensures found { IfOk result (λ l. Spells line.now l) }
     ensures outside { result ≡ Err Outside → (l : Line) → Spells line.now l → ⊥ }

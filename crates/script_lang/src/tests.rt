@@ -1,418 +1,431 @@
+//! Lines in and outside the grammar, their fields, and what is printed.
 ghost use Rattle.std.specs.Prelude.{IsTrue};
-ghost use Rattle.pad_steps.specs.Today.{is_taken_today};
+ghost use Rattle.pad_steps.specs.Formed.{is_well_formed};
 
 use crate::{Line, LineFault, read_line, spelled_again, write_step, writing};
 use disk_core::{Keep, Strike};
 use key_source::Key;
-use pad_steps::{
-    Algorithm, BlockRequest, Classes, Command, CryptRequest, Form, ImportRequest, ImportSource,
-    PinRequest, Start, Step, Verify,
-};
-use pad_words::{Block, Digit, Direction, Octets};
+use pad_steps::{Command, ImportSource, PinRequest, Question, Step};
+use pad_words::{Digit, NoMemory, Octets};
 use std::alloc::Global;
-use std::test::Fail;
 
-const GETPIN: &str = "submit 1 0 getpin 4 16 hold 000F03FF00000000 0003000000000000";
+/// What a line is: a step that is printed as it was or with upper case, or no line at all.
+#[derive(Clone, Copy)]
+enum Is {
+    Same,
+    Printed(&'static str),
+    Outside,
+}
 
-const IMPORT: &str = "submit 1 0 import PIN_KEY_1 clear 0123456789ABCDEF 0002 none";
+const GETPIN: &str = "submit 1 0 getpin 4 16 hold 000F03FF80000001 0003000000000000";
 
-const SEALED: &str = "submit 1 0 import NEW_KEY sealed SEAL_KEY 00FFA5 8421 zero";
+const KEYENTRY: &str = "submit 2 7 keyentry 32 auto 001FFFFF00000000 0001000000000002 self";
 
-const DELETE: &str = "submit 1 0 delete OLD_KEY";
+const PINBLOCK: &str = "submit 1 0 pinblock iso0 PIN_KEY_1 - 0123456789ABCDEF 123456789012 F";
 
-const RSA: &str = "submit 1 0 rsa";
+const LOCALDES: &str = "submit 1 0 localdes K 12AB E 012 5 nolead 0123456789012345";
 
-const PINBLOCK: &str = "submit 1 0 pinblock iso0 PIN_KEY_1 - - 123456789012 F";
+const EXTRA: &str = "submit 1 0 extra 254 K 00FFA5";
+
+const IMPORT: &str = "submit 1 0 import NEW_KEY sealed SEAL_KEY 00FFA5 8421 zero";
 
 const CRYPT: &str = "submit 1 0 crypt cbc decrypt DATA_KEY START_KEY:FEDCBA9876543210 A5 0123FF";
 
-// each kind of line, as it is printed
-const LINES: &[&str] = &[
-    "open 1",
-    "listen 1 none",
-    "listen 1 service",
-    "listen 1 execute",
-    "listen 1 both",
-    GETPIN,
-    IMPORT,
-    "submit 1 0 import A clear FEDCBA9876543210 0002 none",
-    "submit 1 0 import ABCDEFGHIJKLMNOPQRSTUVWXYZ_01234 clear 0000000000000000 0002 none",
-    "submit 1 0 import P clear 0123456789ABCDEFFEDCBA9876543210 0002 none",
-    "submit 1 0 import P clear 0123456789ABCDEFFEDCBA9876543210001122334455AABB 0002 none",
-    "submit 1 0 import P clear 0123456789ABCDEF 0001 none",
-    "submit 1 0 import P clear 0123456789ABCDEF 0003 none",
-    "submit 1 0 import P clear 0123456789ABCDEF 0004 none",
-    "submit 1 0 import P clear 0123456789ABCDEF 0007 none",
-    "submit 1 0 import P clear 0123456789ABCDEF 0020 none",
-    "submit 1 0 import P clear 0123456789ABCDEF 0027 none",
-    "submit 1 0 import P clear 01 0002 none",
-    "submit 1 0 import P clear 0123456789ABCD 0002 none",
-    "submit 1 0 import P clear 0123456789ABCDEF01 0002 none",
-    "submit 1 0 import P clear 0123456789ABCDEF01234567 0002 none",
-    "submit 1 0 import P clear 0123456789ABCDEF0123456789ABCDEF0123456789ABCDEF01 0002 none",
-    "submit 1 0 import P clear 0123456789ABCDEF0123456789ABCDEF0123456789ABCDEF0123456789ABCDEF 0002 none",
-    "submit 1 0 import P clear 0123456789ABCDEF 0000 none",
-    "submit 1 0 import P clear 0123456789ABCDEF 0008 none",
-    "submit 1 0 import P clear 0123456789ABCDEF 000A none",
-    "submit 1 0 import P clear 0123456789ABCDEF 0010 none",
-    "submit 1 0 import P clear 0123456789ABCDEF 0012 none",
-    "submit 1 0 import P clear 0123456789ABCDEF 0040 none",
-    "submit 1 0 import P clear 0123456789ABCDEF 0042 none",
-    "submit 1 0 import P clear 0123456789ABCDEF 0100 none",
-    "submit 1 0 import P clear 0123456789ABCDEF 0102 none",
-    "submit 1 0 import P clear 0123456789ABCDEF FFFF none",
-    "submit 1 0 import P clear 0123456789ABCDEF 0002 self",
-    "submit 1 0 import P clear 0123456789ABCDEF 0002 zero",
-    SEALED,
-    "submit 1 0 import P sealed K 0123456789ABCDEF 0002 none",
-    "submit 1 0 import P sealed P 0123456789ABCDEFFEDCBA9876543210 8000 self",
-    "submit 1 0 import P sealed ABCDEFGHIJKLMNOPQRSTUVWXYZ_01234 0F 0000 zero",
-    DELETE,
-    "submit 1 0 delete A",
-    "submit 1 0 delete ABCDEFGHIJKLMNOPQRSTUVWXYZ_01234",
-    RSA,
-    PINBLOCK,
-    "submit 1 0 pinblock iso0 ABCDEFGHIJKLMNOPQRSTUVWXYZ_56789 - - 1234567890123456789 0",
-    CRYPT,
-    "submit 1 0 crypt ecb encrypt K - 00 -",
-    "submit 1 0 crypt ecb decrypt K - FF 00",
-    "submit 1 0 crypt cbc encrypt K 0123456789ABCDEF 0F 0123456789ABCDEF",
-    "submit 1 0 crypt cfb encrypt K 0000000000000000 F0 -",
-    "submit 1 0 crypt cfb decrypt K _9:0000000000000000 20 FF",
-    "submit 1 0 crypt mac encrypt K FFFFFFFFFFFFFFFF 80 A5",
-    "submit 1 0 crypt mac decrypt K - 00 0001020304050607",
-    "submit 1 0 crypt retail encrypt K ABCDEFGHIJKLMNOPQRSTUVWXYZ_01234:0123456789ABCDEF 00 5A",
-    "submit 1 0 crypt retail decrypt ABCDEFGHIJKLMNOPQRSTUVWXYZ_56789 A:0123456789ABCDEF 01 -",
-    "press 0",
-    "press 7",
-    "press 9",
-    "press enter",
-    "press cancel",
-    "press clear",
-    "press back",
-    "off",
-    "boot",
-    "submit 1 0 init",
-    "submit 1 0 reset",
+// lines without a command, and what each is
+const LINES: &[(&str, Is)] = &[
+    ("open 1", Is::Same),
+    ("open 16", Is::Same),
+    ("close 1", Is::Same),
+    ("close 16", Is::Same),
+    ("listen 1 none", Is::Same),
+    ("listen 16 service", Is::Same),
+    ("listen 9 execute", Is::Same),
+    ("listen 10 both", Is::Same),
+    ("lock 1", Is::Same),
+    ("lock 16", Is::Same),
+    ("unlock 1", Is::Same),
+    ("unlock 16", Is::Same),
+    ("cancel 1 0", Is::Same),
+    ("cancel 16 4294967295", Is::Same),
+    ("begin", Is::Same),
+    ("finish", Is::Same),
+    ("press 0", Is::Same),
+    ("press 9", Is::Same),
+    ("press A", Is::Same),
+    ("press F", Is::Same),
+    ("press enter", Is::Same),
+    ("press cancel", Is::Same),
+    ("press clear", Is::Same),
+    ("press back", Is::Same),
+    ("press help", Is::Same),
+    ("press fdk1", Is::Same),
+    ("press fdk32", Is::Same),
+    ("tick 1", Is::Same),
+    ("tick 1000000", Is::Same),
+    ("ask 1 status", Is::Same),
+    ("ask 16 key K", Is::Same),
+    ("ask 2 names", Is::Same),
+    ("ask 1 reply 0", Is::Same),
+    ("ask 16 reply 4294967295", Is::Same),
+    ("off", Is::Same),
+    ("boot", Is::Same),
+    (" ", Is::Outside),
+    (" #", Is::Outside),
+    ("open", Is::Outside),
+    ("open ", Is::Outside),
+    ("open 0", Is::Outside),
+    ("open 17", Is::Outside),
+    ("open 01", Is::Outside),
+    ("open 257", Is::Outside),
+    ("open 4294967297", Is::Outside),
+    ("open 18446744073709551617", Is::Outside),
+    ("open +1", Is::Outside),
+    ("open 1x", Is::Outside),
+    ("open  1", Is::Outside),
+    ("open 1 ", Is::Outside),
+    (" open 1", Is::Outside),
+    ("open\t1", Is::Outside),
+    ("open 1\r", Is::Outside),
+    ("open 1\n", Is::Outside),
+    ("open 1 1", Is::Outside),
+    ("OPEN 1", Is::Outside),
+    ("opens 1", Is::Outside),
+    ("close 0", Is::Outside),
+    ("close 17", Is::Outside),
+    ("close", Is::Outside),
+    ("lock 1 1", Is::Outside),
+    ("lock 17", Is::Outside),
+    ("unlock ", Is::Outside),
+    ("unlock 0", Is::Outside),
+    ("listen 1", Is::Outside),
+    ("listen 0 none", Is::Outside),
+    ("listen 17 none", Is::Outside),
+    ("listen 1 all", Is::Outside),
+    ("listen 1 None", Is::Outside),
+    ("listen 1 both both", Is::Outside),
+    ("cancel 1", Is::Outside),
+    ("cancel 1 4294967296", Is::Outside),
+    ("cancel 1 -1", Is::Outside),
+    ("cancel 1 00", Is::Outside),
+    ("cancel 0 1", Is::Outside),
+    ("begin 1", Is::Outside),
+    ("begin ", Is::Outside),
+    ("finish 1", Is::Outside),
+    ("press", Is::Outside),
+    ("press a", Is::Outside),
+    ("press G", Is::Outside),
+    ("press 10", Is::Outside),
+    ("press fdk0", Is::Outside),
+    ("press fdk33", Is::Outside),
+    ("press fdk01", Is::Outside),
+    ("press *", Is::Outside),
+    ("press enter ", Is::Outside),
+    ("tick", Is::Outside),
+    ("tick 0", Is::Outside),
+    ("tick 1000001", Is::Outside),
+    ("tick 1 1", Is::Outside),
+    ("ask 1", Is::Outside),
+    ("ask 0 status", Is::Outside),
+    ("ask 1 status 1", Is::Outside),
+    ("ask 1 key", Is::Outside),
+    ("ask 1 key k", Is::Outside),
+    ("ask 1 names N", Is::Outside),
+    ("ask 1 reply", Is::Outside),
+    ("ask 1 reply 4294967296", Is::Outside),
+    ("ask 1 Status", Is::Outside),
+    ("auto 1", Is::Outside),
+    ("auto ", Is::Outside),
+    ("boot 1", Is::Outside),
+    ("off ", Is::Outside),
+    ("cut 1", Is::Outside),
+    ("cut 0 old", Is::Outside),
+    ("cut 1001 old", Is::Outside),
+    ("cut 1 other", Is::Outside),
+    ("cut 1 old 00", Is::Outside),
+    ("cut 1  new", Is::Outside),
+    ("cut 1 fill", Is::Outside),
+    ("cut 1 fill 0", Is::Outside),
+    ("cut 1 fill 000", Is::Outside),
+    ("cut 1 fill 7G", Is::Outside),
+    ("cut 1 fill 77 77", Is::Outside),
+    ("fail 0", Is::Outside),
+    ("fail 1001", Is::Outside),
+    ("fail 1 old", Is::Outside),
 ];
 
-// lines that differ from the kinds that lines have
-const OTHER_LINES: &[&str] = &[
-    "",
-    " ",
-    "#",
-    "# open 1",
-    "open",
-    "open ",
-    "open 0",
-    "open 01",
-    "open 2",
-    "open 16",
-    "open 17",
-    "open 257",
-    "open 4294967297",
-    "open 18446744073709551617",
-    "open +1",
-    "open 1x",
-    "open  1",
-    "open 1 ",
-    " open 1",
-    "open\t1",
-    "open 1\r",
-    "open 1\n",
-    "open 1 1",
-    "OPEN 1",
-    "opens 1",
-    "listen 1 all",
-    "listen 1 Execute",
-    "listen 1 BOTH",
-    "listen 1 none ",
-    "listen 1 service execute",
-    "listen 1 both both",
-    "listen 1 ",
-    "listen 2 both",
-    "listen 2 execute",
-    "listen execute 1",
-    "listen 1",
-    "submit 1 1 getpin 4 16 hold 000F03FF00000000 0003000000000000",
-    "submit 2 0 getpin 4 16 hold 000F03FF00000000 0003000000000000",
-    "submit 1 00 getpin 4 16 hold 000F03FF00000000 0003000000000000",
-    "submit 1 0 getpin 5 16 hold 000F03FF00000000 0003000000000000",
-    "submit 1 0 getpin 4 12 hold 000F03FF00000000 0003000000000000",
-    "submit 1 0 getpin 4 16 auto 000F03FF00000000 0003000000000000",
-    "submit 1 0 getpin 4 16 hold 000f03ff00000000 0003000000000000",
-    "submit 1 0 getpin 4 16 hold 000F03FE00000000 0003000000000000",
-    "submit 1 0 getpin 4 16 hold 000F03FF00000001 0003000000000000",
-    "submit 1 0 getpin 4 16 hold 000F03FF00000000 0002000000000000",
-    "submit 1 0 getpin 4 16 hold 000F03FF0000000 0003000000000000",
-    "submit 1 0 getpin 4 16 hold 000F03FF000000000 0003000000000000",
-    "submit 1 0 getpin 4 16 hold 000F03FF00000000",
-    "submit 1 0 getpin 4 16 hold 000F03FF00000000 0003000000000000 ",
-    "submit 1 0 getdata 4 16 hold 000F03FF00000000 0003000000000000",
-    "submit 1 0 init 1",
-    "submit 1 0 inits",
-    "submit 1 0 reset ",
-    "submit 1 1 reset",
-    "submit 1 0",
-    "submit 1 0 delete",
-    "submit 1 0 delete ",
-    "submit 1 0 delete k",
-    "submit 1 0 delete -",
-    "submit 1 0 delete K ",
-    "submit 1 0 delete K K",
-    "submit 1 0 delete  K",
-    "submit 1 0 delete ABCDEFGHIJKLMNOPQRSTUVWXYZ_012345",
-    "submit 1 0 Delete K",
-    "submit 1 1 delete K",
-    "submit 2 0 delete K",
-    "submit 1 0 rsa ",
-    "submit 1 0 rsa x",
-    "submit 1 0 rsa K",
-    "submit 1 0 RSA",
-    "submit 1 1 rsa",
-    "submit 2 0 rsa",
-    "press",
-    "press a",
-    "press A",
-    "press F",
-    "press 10",
-    "press 01",
-    "press help",
-    "press fdk1",
-    "press *",
-    "press Enter",
-    "press enter ",
-    "auto ",
-    "auto 1",
-    "begin",
-    "finish",
-    "close 1",
-    "boot 1",
-    "boot ",
-    "boots",
-    "off 1",
-    "offs",
-    "Off",
+// entries and key commands, and what each is
+const COMMANDS: &[(&str, Is)] = &[
+    (GETPIN, Is::Same),
+    (KEYENTRY, Is::Same),
+    (
+        "submit 16 1000000 getpin 0 255 auto 0000000000000000 FFFFFFFFFFFFFFFF",
+        Is::Same,
+    ),
+    (
+        "submit 1 0 getdata 255 0 hold 0000000000000000 0000000000000000",
+        Is::Same,
+    ),
+    (
+        "submit 1 0 keyentry 0 hold 0000000000000000 0000000000000000 none",
+        Is::Same,
+    ),
+    ("submit 1 0 maintain on", Is::Same),
+    ("submit 1 0 maintain off", Is::Same),
+    (IMPORT, Is::Same),
+    ("submit 1 0 import A clear 5A 0000 none", Is::Same),
+    ("submit 1 0 import A part FFFF self", Is::Same),
+    (
+        "submit 1 0 delete ABCDEFGHIJKLMNOPQRSTUVWXYZ_01234",
+        Is::Same,
+    ),
+    ("submit 1 0 init", Is::Same),
+    ("submit 1 0 reset", Is::Same),
+    ("submit 1 0 rsa", Is::Same),
+    ("submit 1 0", Is::Outside),
+    ("submit 0 0 init", Is::Outside),
+    ("submit 17 0 init", Is::Outside),
+    ("submit 1 1000001 init", Is::Outside),
+    ("submit 1 00 init", Is::Outside),
+    ("submit 1 init", Is::Outside),
+    (
+        "submit 1 0 getpin 256 16 hold 000F03FF00000000 0003000000000000",
+        Is::Outside,
+    ),
+    (
+        "submit 1 0 getpin 4 256 hold 000F03FF00000000 0003000000000000",
+        Is::Outside,
+    ),
+    (
+        "submit 1 0 getpin 4 16 end 000F03FF00000000 0003000000000000",
+        Is::Outside,
+    ),
+    (
+        "submit 1 0 getpin 4 16 hold 000F03FF0000000 0003000000000000",
+        Is::Outside,
+    ),
+    (
+        "submit 1 0 getpin 4 16 hold 000F03FF00000000 00030000000000000",
+        Is::Outside,
+    ),
+    ("submit 1 0 getpin 4 16 hold 000F03FF00000000", Is::Outside),
+    (
+        "submit 1 0 getdata 4 16 hold 000F03FF00000000 0003000000000000 none",
+        Is::Outside,
+    ),
+    (
+        "submit 1 0 keyentry 256 auto 000F03FF00000000 0003000000000000 none",
+        Is::Outside,
+    ),
+    (
+        "submit 1 0 keyentry 32 auto 000F03FF00000000 0003000000000000",
+        Is::Outside,
+    ),
+    (
+        "submit 1 0 keyentry 32 auto 000F03FF00000000 0003000000000000 own",
+        Is::Outside,
+    ),
+    ("submit 1 0 maintain", Is::Outside),
+    ("submit 1 0 maintain On", Is::Outside),
+    ("submit 1 0 maintain on off", Is::Outside),
+    ("submit 1 0 import A part 5A 0000 none", Is::Outside),
+    ("submit 1 0 import A part 0000", Is::Outside),
+    ("submit 1 0 import A part 00000 none", Is::Outside),
+    ("submit 1 0 import A clear 5 0000 none", Is::Outside),
+    ("submit 1 0 import A clear - 0000 none", Is::Outside),
+    ("submit 1 0 import A clear 5A 000 none", Is::Outside),
+    ("submit 1 0 import A clear 5A 000G none", Is::Outside),
+    ("submit 1 0 import A clear 5A 0000 none none", Is::Outside),
+    ("submit 1 0 import A sealed 5A 0000 none", Is::Outside),
+    ("submit 1 0 import a clear 5A 0000 none", Is::Outside),
+    ("submit 1 0 import A sealed - 5A 0000 none", Is::Outside),
+    (
+        "submit 1 0 delete ABCDEFGHIJKLMNOPQRSTUVWXYZ_012345",
+        Is::Outside,
+    ),
+    ("submit 1 0 delete -", Is::Outside),
+    ("submit 1 0 delete K K", Is::Outside),
+    ("submit 1 0 init 1", Is::Outside),
+    ("submit 1 0 reset ", Is::Outside),
+    ("submit 1 0 rsa K", Is::Outside),
+    ("submit 1 0 RSA", Is::Outside),
 ];
 
-// imports that differ in one field
-const OTHER_IMPORTS: &[&str] = &[
-    "submit 1 0 import",
-    "submit 1 0 import ",
-    "submit 1 0 import P",
-    "submit 1 0 import P clear",
-    "submit 1 0 import P clear 0123456789ABCDEF",
-    "submit 1 0 import P clear 0123456789ABCDEF 0002",
-    "submit 1 0 import P clear 0123456789ABCDEF 0002 ",
-    "submit 1 0 import  clear 0123456789ABCDEF 0002 none",
-    "submit 1 0 import ABCDEFGHIJKLMNOPQRSTUVWXYZ_012345 clear 0123456789ABCDEF 0002 none",
-    "submit 1 0 import p clear 0123456789ABCDEF 0002 none",
-    "submit 1 0 import P-1 clear 0123456789ABCDEF 0002 none",
-    "submit 1 0 import P Clear 0123456789ABCDEF 0002 none",
-    "submit 1 0 import P 0123456789ABCDEF 0002 none",
-    "submit 1 0 import P part 0002 none",
-    "submit 1 0 import P part 0123456789ABCDEF 0002 none",
-    "submit 1 0 import P clear - 0002 none",
-    "submit 1 0 import P clear  0002 none",
-    "submit 1 0 import P clear 0002 none",
-    "submit 1 0 import P clear 0123456789ABCDE 0002 none",
-    "submit 1 0 import P clear 0123456789ABCDEF0 0002 none",
-    "submit 1 0 import P clear 0123456789ABCDEF0123456789ABCDEF0 0002 none",
-    "submit 1 0 import P clear 0123456789abcdef 0002 none",
-    "submit 1 0 import P clear 0123456789ABCDEG 0002 none",
-    "submit 1 0 import P clear K 0123456789ABCDEF 0002 none",
-    "submit 1 0 import P clear 0123456789ABCDEF 002 none",
-    "submit 1 0 import P clear 0123456789ABCDEF 00002 none",
-    "submit 1 0 import P clear 0123456789ABCDEF 2 none",
-    "submit 1 0 import P clear 0123456789ABCDEF 000a none",
-    "submit 1 0 import P clear 0123456789ABCDEF 000G none",
-    "submit 1 0 import P clear 0123456789ABCDEF - none",
-    "submit 1 0 import P clear 0123456789ABCDEF none",
-    "submit 1 0 import P clear 0123456789ABCDEF none 0002",
-    "submit 1 0 import P clear 0123456789ABCDEF 0002 None",
-    "submit 1 0 import P clear 0123456789ABCDEF 0002 own",
-    "submit 1 0 import P clear 0123456789ABCDEF 0002 -",
-    "submit 1 0 import P sealed",
-    "submit 1 0 import P sealed K",
-    "submit 1 0 import P sealed K 0123456789ABCDEF",
-    "submit 1 0 import P sealed K 0123456789ABCDEF 0002",
-    "submit 1 0 import P sealed K 0123456789ABCDEF 0002 ",
-    "submit 1 0 import P sealed K 0002 none",
-    "submit 1 0 import P sealed 0123456789ABCDEF 0002 none",
-    "submit 1 0 import P sealed k 0123456789ABCDEF 0002 none",
-    "submit 1 0 import P sealed - 0123456789ABCDEF 0002 none",
-    "submit 1 0 import P sealed  0123456789ABCDEF 0002 none",
-    "submit 1 0 import P sealed ABCDEFGHIJKLMNOPQRSTUVWXYZ_012345 0123456789ABCDEF 0002 none",
-    "submit 1 0 import P sealed K - 0002 none",
-    "submit 1 0 import P sealed K  0002 none",
-    "submit 1 0 import P sealed K 0123456789ABCDE 0002 none",
-    "submit 1 0 import P sealed K 0123456789abcdef 0002 none",
-    "submit 1 0 import P sealed K 0123456789ABCDEF 002 none",
-    "submit 1 0 import P sealed K 0123456789ABCDEF 00002 none",
-    "submit 1 0 import P sealed K 0123456789ABCDEF 0002 None",
-    "submit 1 0 import P sealed K 0123456789ABCDEF 0002 none none",
-    "submit 1 0 import P Sealed K 0123456789ABCDEF 0002 none",
-    "submit 1 1 import P sealed K 0123456789ABCDEF 0002 none",
-    "submit 2 0 import P sealed K 0123456789ABCDEF 0002 none",
-    "submit 1 0 import P clear 0123456789ABCDEF 0002 none none",
-    "submit 1 0 import P clear 0123456789ABCDEF 0002  none",
-    "submit 1 0 import P clear  0123456789ABCDEF 0002 none",
-    "submit 1 0 import P clear 0123456789ABCDEF 0002 none ",
-    "submit 1 1 import P clear 0123456789ABCDEF 0002 none",
-    "submit 2 0 import P clear 0123456789ABCDEF 0002 none",
-    "submit 1 0 Import P clear 0123456789ABCDEF 0002 none",
+// PIN commands, crypt commands and digits in lower case, and what each is
+const REQUESTS: &[(&str, Is)] = &[
+    (PINBLOCK, Is::Same),
+    (LOCALDES, Is::Same),
+    (EXTRA, Is::Same),
+    (CRYPT, Is::Same),
+    ("submit 1 0 pinblock iso0 P - - - 0", Is::Same),
+    ("submit 1 0 pinblock iso1 P - - F A", Is::Same),
+    ("submit 1 0 pinblock iso2 P - - - 0", Is::Same),
+    ("submit 1 0 pinblock iso3 P P2 - 1 0", Is::Same),
+    ("submit 1 0 pinblock iso4 P - - - 0", Is::Same),
+    ("submit 1 0 pinblock ibm3624 P - - 1 F", Is::Same),
+    ("submit 1 0 pinblock diebold P - - 1 F", Is::Same),
+    (
+        "submit 1 0 pinblock dieboldco P - - 1234567890ABCDEF12345678 F",
+        Is::Same,
+    ),
+    (
+        "submit 1 0 localdes K F 0 - 0 lead 9999999999999999",
+        Is::Same,
+    ),
+    (
+        "submit 1 0 localdes K 0123456789ABCDEF F 9876543210987654 255 lead 0123456789012345",
+        Is::Same,
+    ),
+    ("submit 1 0 extra 0 K -", Is::Same),
+    ("submit 1 0 extra 255 K 00", Is::Same),
+    ("submit 1 0 crypt ecb encrypt K - 00 -", Is::Same),
+    (
+        "submit 1 0 crypt cfb decrypt K 0123456789ABCDEF FF 00",
+        Is::Same,
+    ),
+    ("submit 1 0 crypt mac encrypt K - 00 -", Is::Same),
+    ("submit 1 0 crypt retail encrypt K - 00 -", Is::Same),
+    ("submit 1 0 pinblock iso5 P - - 1 0", Is::Outside),
+    ("submit 1 0 pinblock iso0 - - - 1 0", Is::Outside),
+    ("submit 1 0 pinblock iso0 P -- - 1 0", Is::Outside),
+    (
+        "submit 1 0 pinblock iso0 P - 0123456789ABCDE 1 0",
+        Is::Outside,
+    ),
+    (
+        "submit 1 0 pinblock iso0 P - - 1234567890123456789012345 0",
+        Is::Outside,
+    ),
+    ("submit 1 0 pinblock iso0 P - - 1 00", Is::Outside),
+    ("submit 1 0 pinblock iso0 P - - 1 -", Is::Outside),
+    ("submit 1 0 pinblock iso0 P - - 1", Is::Outside),
+    ("submit 1 0 pinblock iso0 P - - 1 0 0", Is::Outside),
+    (
+        "submit 1 0 localdes K  0 - 0 lead 0123456789012345",
+        Is::Outside,
+    ),
+    (
+        "submit 1 0 localdes K - 0 - 0 lead 0123456789012345",
+        Is::Outside,
+    ),
+    (
+        "submit 1 0 localdes K 0123456789ABCDEF0 0 - 0 lead 0123456789012345",
+        Is::Outside,
+    ),
+    (
+        "submit 1 0 localdes K 1 0 98765432109876543 0 lead 0123456789012345",
+        Is::Outside,
+    ),
+    (
+        "submit 1 0 localdes K 1 0 A 0 lead 0123456789012345",
+        Is::Outside,
+    ),
+    (
+        "submit 1 0 localdes K 1 0 - 256 lead 0123456789012345",
+        Is::Outside,
+    ),
+    (
+        "submit 1 0 localdes K 1 0 - 0 yes 0123456789012345",
+        Is::Outside,
+    ),
+    (
+        "submit 1 0 localdes K 1 0 - 0 lead 012345678901234",
+        Is::Outside,
+    ),
+    (
+        "submit 1 0 localdes K 1 0 - 0 lead 01234567890123456",
+        Is::Outside,
+    ),
+    (
+        "submit 1 0 localdes K 1 0 - 0 lead 012345678901234A",
+        Is::Outside,
+    ),
+    (
+        "submit 1 0 localdes K 1 00 - 0 lead 0123456789012345",
+        Is::Outside,
+    ),
+    (
+        "submit 1 0 localdes K 1 0 - 0 lead 0123456789012345 ",
+        Is::Outside,
+    ),
+    ("submit 1 0 extra 256 K 00", Is::Outside),
+    ("submit 1 0 extra 0 K 000", Is::Outside),
+    ("submit 1 0 extra 0 K", Is::Outside),
+    ("submit 1 0 extra 0 - 00", Is::Outside),
+    ("submit 1 0 crypt ofb encrypt K - 00 01", Is::Outside),
+    ("submit 1 0 crypt cbc both K - 00 01", Is::Outside),
+    (
+        "submit 1 0 crypt cbc encrypt K 0123456789ABCDEF0 00 01",
+        Is::Outside,
+    ),
+    (
+        "submit 1 0 crypt cbc encrypt K :0123456789ABCDEF 00 01",
+        Is::Outside,
+    ),
+    (
+        "submit 1 0 crypt cbc encrypt K S::0123456789ABCDEF 00 01",
+        Is::Outside,
+    ),
+    (
+        "submit 1 0 crypt cbc encrypt K S:0123456789ABCDE 00 01",
+        Is::Outside,
+    ),
+    (
+        "submit 1 0 crypt cbc encrypt K s:0123456789ABCDEF 00 01",
+        Is::Outside,
+    ),
+    ("submit 1 0 crypt cbc encrypt K - 0 01", Is::Outside),
+    ("submit 1 0 crypt cbc encrypt K - - 01", Is::Outside),
+    ("submit 1 0 crypt cbc encrypt K - 00 012", Is::Outside),
+    ("submit 1 0 crypt cbc encrypt K - 00 0G", Is::Outside),
+    ("submit 1 0 crypt cbc encrypt K - 00 01 02", Is::Outside),
+    (
+        "submit 1 0 getdata 4 16 hold 000f03ff0000abcd 000300000000fFfF",
+        Is::Printed("submit 1 0 getdata 4 16 hold 000F03FF0000ABCD 000300000000FFFF"),
+    ),
+    (
+        "submit 1 0 import A part abcd none",
+        Is::Printed("submit 1 0 import A part ABCD none"),
+    ),
+    (
+        "submit 1 0 import A clear 0f 0000 none",
+        Is::Printed("submit 1 0 import A clear 0F 0000 none"),
+    ),
+    (
+        "submit 1 0 localdes K ab e - 4 lead 0123456789012345",
+        Is::Printed("submit 1 0 localdes K AB E - 4 lead 0123456789012345"),
+    ),
+    (
+        "submit 1 0 pinblock iso0 P - 0123456789abcdef 12f a",
+        Is::Printed("submit 1 0 pinblock iso0 P - 0123456789ABCDEF 12F A"),
+    ),
+    (
+        "submit 1 0 crypt cbc encrypt K S:fedcba9876543210 a5 ff",
+        Is::Printed("submit 1 0 crypt cbc encrypt K S:FEDCBA9876543210 A5 FF"),
+    ),
+    (
+        "submit 1 0 extra 1 K 0a",
+        Is::Printed("submit 1 0 extra 1 K 0A"),
+    ),
 ];
 
-// PIN blocks that differ in one field
-const OTHER_BLOCKS: &[&str] = &[
-    "submit 1 0 pinblock",
-    "submit 1 0 pinblock iso0 P - - 123456789012",
-    "submit 1 0 pinblock iso0 P - - 123456789012 ",
-    "submit 1 0 pinblock iso1 P - - 123456789012 0",
-    "submit 1 0 pinblock iso2 P - - 123456789012 0",
-    "submit 1 0 pinblock iso3 P - - 123456789012 0",
-    "submit 1 0 pinblock iso4 P - - 123456789012 0",
-    "submit 1 0 pinblock ibm3624 P - - 123456789012 0",
-    "submit 1 0 pinblock diebold P - - 123456789012 0",
-    "submit 1 0 pinblock dieboldco P - - 123456789012 0",
-    "submit 1 0 pinblock iso5 P - - 123456789012 0",
-    "submit 1 0 pinblock ISO0 P - - 123456789012 0",
-    "submit 1 0 pinblock iso0 p - - 123456789012 0",
-    "submit 1 0 pinblock iso0 - - - 123456789012 0",
-    "submit 1 0 pinblock iso0  - - 123456789012 0",
-    "submit 1 0 pinblock iso0 ABCDEFGHIJKLMNOPQRSTUVWXYZ_012345 - - 123456789012 0",
-    "submit 1 0 pinblock iso0 P K - 123456789012 0",
-    "submit 1 0 pinblock iso0 P -- - 123456789012 0",
-    "submit 1 0 pinblock iso0 P - 0000000000000000 123456789012 0",
-    "submit 1 0 pinblock iso0 P - 0 123456789012 0",
-    "submit 1 0 pinblock iso0 P - - - 0",
-    "submit 1 0 pinblock iso0 P - - 12345678901 0",
-    "submit 1 0 pinblock iso0 P - - 12345678901234567890 0",
-    "submit 1 0 pinblock iso0 P - - 123456789012345678901234 0",
-    "submit 1 0 pinblock iso0 P - - 1234567890123456789012345 0",
-    "submit 1 0 pinblock iso0 P - - 12345678901A 0",
-    "submit 1 0 pinblock iso0 P - - 12345678901a 0",
-    "submit 1 0 pinblock iso0 P - - 12345678901- 0",
-    "submit 1 0 pinblock iso0 P - - 123456789012 00",
-    "submit 1 0 pinblock iso0 P - - 123456789012 10",
-    "submit 1 0 pinblock iso0 P - - 123456789012 f",
-    "submit 1 0 pinblock iso0 P - - 123456789012 G",
-    "submit 1 0 pinblock iso0 P - - 123456789012 -",
-    "submit 1 0 pinblock iso0 P - - 123456789012  0",
-    "submit 1 0 pinblock iso0 P - - 123456789012 0 ",
-    "submit 1 0 pinblock iso0 P - - 123456789012 0 0",
-    "submit 1 1 pinblock iso0 P - - 123456789012 0",
-    "submit 2 0 pinblock iso0 P - - 123456789012 0",
-];
+// whether this is printed of the step
+fn prints(alloc: Global, step: &Step, masked: bool, line: &[u8]) -> bool
+    requires { IsTrue (is_well_formed step.now) }
+{
+    let mut text = Octets::empty(alloc);
+    match write_step(alloc, step, masked, &mut text) {
+        Ok(()) => text.items() == line,
+        Err(NoMemory) => false,
+    }
+}
 
-// crypt commands that differ in one field
-const OTHER_CRYPTS: &[&str] = &[
-    "submit 1 0 crypt",
-    "submit 1 0 crypt cbc encrypt K - 00",
-    "submit 1 0 crypt cbc encrypt K - 00 ",
-    "submit 1 0 crypt cbc encrypt K - 00 01 ",
-    "submit 1 0 crypt cbc encrypt K - 00 01 02",
-    "submit 1 0 crypt cbc encrypt K - 00 - -",
-    "submit 1 0 crypt cbc encrypt K - 00  01",
-    "submit 1 0 crypt ofb encrypt K - 00 01",
-    "submit 1 0 crypt CBC encrypt K - 00 01",
-    "submit 1 0 crypt cbcmac encrypt K - 00 01",
-    "submit 1 0 crypt  encrypt K - 00 01",
-    "submit 1 0 crypt cbc both K - 00 01",
-    "submit 1 0 crypt cbc Encrypt K - 00 01",
-    "submit 1 0 crypt cbc K - 00 01",
-    "submit 1 0 crypt cbc encrypt k - 00 01",
-    "submit 1 0 crypt cbc encrypt - - 00 01",
-    "submit 1 0 crypt cbc encrypt  - 00 01",
-    "submit 1 0 crypt cbc encrypt ABCDEFGHIJKLMNOPQRSTUVWXYZ_012345 - 00 01",
-    "submit 1 0 crypt cbc encrypt K 00 01",
-    "submit 1 0 crypt cbc encrypt K -- 00 01",
-    "submit 1 0 crypt cbc encrypt K 0123456789ABCDE 00 01",
-    "submit 1 0 crypt cbc encrypt K 0123456789ABCDEF0 00 01",
-    "submit 1 0 crypt cbc encrypt K 0123456789abcdef 00 01",
-    "submit 1 0 crypt cbc encrypt K 0123456789ABCDEG 00 01",
-    "submit 1 0 crypt cbc encrypt K START 00 01",
-    "submit 1 0 crypt cbc encrypt K S: 00 01",
-    "submit 1 0 crypt cbc encrypt K S:- 00 01",
-    "submit 1 0 crypt cbc encrypt K S:0123456789ABCDE 00 01",
-    "submit 1 0 crypt cbc encrypt K S:0123456789ABCDEF0 00 01",
-    "submit 1 0 crypt cbc encrypt K S:0123456789abcdef 00 01",
-    "submit 1 0 crypt cbc encrypt K :0123456789ABCDEF 00 01",
-    "submit 1 0 crypt cbc encrypt K -:0123456789ABCDEF 00 01",
-    "submit 1 0 crypt cbc encrypt K s:0123456789ABCDEF 00 01",
-    "submit 1 0 crypt cbc encrypt K S::0123456789ABCDEF 00 01",
-    "submit 1 0 crypt cbc encrypt K S:T:0123456789ABCDEF 00 01",
-    "submit 1 0 crypt cbc encrypt K S:0123456789ABCDEF: 00 01",
-    "submit 1 0 crypt cbc encrypt K S 0123456789ABCDEF 00 01",
-    "submit 1 0 crypt cbc encrypt K S: 0123456789ABCDEF 00 01",
-    "submit 1 0 crypt cbc encrypt K ABCDEFGHIJKLMNOPQRSTUVWXYZ_012345:0123456789ABCDEF 00 01",
-    "submit 1 0 crypt cbc encrypt K - 0 01",
-    "submit 1 0 crypt cbc encrypt K - 000 01",
-    "submit 1 0 crypt cbc encrypt K - ff 01",
-    "submit 1 0 crypt cbc encrypt K - 0G 01",
-    "submit 1 0 crypt cbc encrypt K - - 01",
-    "submit 1 0 crypt cbc encrypt K - 00 0",
-    "submit 1 0 crypt cbc encrypt K - 00 012",
-    "submit 1 0 crypt cbc encrypt K - 00 0a",
-    "submit 1 0 crypt cbc encrypt K - 00 0G",
-    "submit 1 0 crypt cbc encrypt K - 00 --",
-    "submit 1 1 crypt cbc encrypt K - 00 01",
-    "submit 2 0 crypt cbc encrypt K - 00 01",
-    "submit 1 0 Crypt cbc encrypt K - 00 01",
-];
-
-// bytes that are no text, or have a mark of a text in front
-const OTHER_BYTES: &[&[u8]] = &[
-    &[b'o', b'p', b'e', b'n', b' ', 0xB1],
-    &[0xEF, 0xBB, 0xBF, b'a', b'u', b't', b'o'],
-    &[0, b'a', b'u', b't', b'o'],
-];
-
-// lines that arm a call: its number, and what is to happen to it
-const ARMINGS: &[(&str, u32, Strike)] = &[
-    ("fail 1", 1, Strike::Fail),
-    ("fail 1000", 1000, Strike::Fail),
-    ("cut 1 old", 1, Strike::Cut(Keep::Old)),
-    ("cut 12 new", 12, Strike::Cut(Keep::New)),
-    ("cut 1000 fill 00", 1000, Strike::Cut(Keep::Fill(0))),
-    ("cut 4 fill 7A", 4, Strike::Cut(Keep::Fill(0x7A))),
-    ("cut 999 fill FF", 999, Strike::Cut(Keep::Fill(0xFF))),
-];
-
-// lines that arm no call
-const OTHER_ARMINGS: &[&str] = &[
-    "fail",
-    "fail 0",
-    "fail 01",
-    "fail 1001",
-    "fail 4294967297",
-    "fail -1",
-    "fail 1 ",
-    "fail 1 old",
-    "fail  1",
-    "cut",
-    "cut 1",
-    "cut 1 ",
-    "cut 0 old",
-    "cut 1001 old",
-    "cut 01 old",
-    "cut old",
-    "cut 1 Old",
-    "cut 1 other",
-    "cut 1 old 00",
-    "cut 1 new 00",
-    "cut 1  new",
-    "cut 1 new ",
-    "cut 1 fill",
-    "cut 1 fill ",
-    "cut 1 fill 0",
-    "cut 1 fill 000",
-    "cut 1 fill 7a",
-    "cut 1 fill 7G",
-    "cut 1 fill 77 77",
-    "cut 1 fill 77 ",
-    "cut 1 77",
-];
+// whether the line is a step that is printed so
+fn is_printed_as(alloc: Global, line: &[u8], printed: &[u8]) -> bool {
+    match read_line(alloc, line) {
+        Ok(Line::Do(step)) => prints(alloc, &step, false, printed),
+        _ => false,
+    }
+}
 
 // whether the line is outside the grammar
 fn is_outside(alloc: Global, line: &[u8]) -> bool {
@@ -422,358 +435,285 @@ fn is_outside(alloc: Global, line: &[u8]) -> bool {
     }
 }
 
-// whether the line says a step that is printed as the line again, behind what stood before
-fn is_printed_again(alloc: Global, line: &[u8]) -> Result<bool, Fail> {
-    let mut text = Octets::copy(alloc, "> ".as_bytes())?;
-    match read_line(alloc, line) {
-        Ok(Line::Do(step)) => write_step(alloc, &step, false, &mut text)?,
-        _ => return Ok(false),
+// whether the line is what it is to be
+fn is_so(alloc: Global, line: &[u8], wanted: Is) -> bool {
+    match wanted {
+        Is::Same => is_printed_as(alloc, line, line),
+        Is::Printed(printed) => is_printed_as(alloc, line, printed.as_bytes()),
+        Is::Outside => is_outside(alloc, line),
     }
-    let mut whole = Octets::copy(alloc, "> ".as_bytes())?;
-    whole.append(line)?;
-    Ok(text.items() == whole.items())
 }
 
-#[test]
-fn lines_are_read_and_printed_again(rt: HostRuntime) -> Result<(), Fail> {
-    spelled_again();
-    for line in LINES {
-        let again = is_printed_again(rt.alloc(), line.as_bytes())?;
-        assert!(rt; again, "{line} is read or printed otherwise");
-    }
-    Ok(())
-}
-
-#[test]
-fn other_lines_are_outside(rt: HostRuntime) -> Result<(), Fail> {
-    for lines in [
-        OTHER_LINES,
-        OTHER_IMPORTS,
-        OTHER_BLOCKS,
-        OTHER_CRYPTS,
-        OTHER_ARMINGS,
-    ] {
-        for line in lines {
-            assert!(rt; is_outside(rt.alloc(), line.as_bytes()), "{line} is read");
+// the first line of the list that is otherwise
+fn wrong_line(alloc: Global, lines: &[(&str, Is)]) -> Option<usize> {
+    for place in 0..lines.len() {
+        if !is_so(alloc, lines[place].0.as_bytes(), lines[place].1) {
+            return Some(place);
         }
     }
-    Ok(())
+    None
 }
 
 #[test]
-fn other_bytes_are_outside(rt: HostRuntime) -> Result<(), Fail> {
-    for bytes in OTHER_BYTES {
-        assert!(rt; is_outside(rt.alloc(), bytes));
-    }
-    assert!(rt; is_outside(rt.alloc(), &[b'1'; 5000]));
-    assert!(rt; is_outside(rt.alloc(), &[b' '; 5000]));
-    Ok(())
+fn lines_are_read_and_printed_again(rt: HostRuntime) {
+    spelled_again();
+    assert_eq!(rt; wrong_line(rt.alloc(), LINES), None);
 }
 
-// so many digits between two texts
-fn digits_between(alloc: Global, front: &str, digits: u32, end: &str) -> Result<Octets, Fail> {
-    let mut line = Octets::copy(alloc, front.as_bytes())?;
-    for _ in 0..digits {
-        line.push(b'7')?;
-    }
-    writing::write_word(end, &mut line)?;
-    Ok(line)
+#[test]
+fn commands_are_read_and_printed_again(rt: HostRuntime) {
+    assert_eq!(rt; wrong_line(rt.alloc(), COMMANDS), None);
 }
 
-// the commands with bytes: what stands before them and after them, and the most digits
-const BYTES: &[(&str, &str, u32)] = &[
-    ("submit 1 0 crypt cbc encrypt K - 00 ", "", 2048),
-    ("submit 1 0 import K clear ", " 0002 none", 128),
-    ("submit 1 0 import K sealed K2 ", " FFFF self", 128),
+#[test]
+fn requests_are_read_and_printed_again(rt: HostRuntime) {
+    assert_eq!(rt; wrong_line(rt.alloc(), REQUESTS), None);
+}
+
+// bytes that are no text, or have a mark of a text in front, and long words
+const OTHER_BYTES: &[&[u8]] = &[
+    &[b'o', b'p', b'e', b'n', b' ', 0xB1],
+    &[0xEF, 0xBB, 0xBF, b'a', b'u', b't', b'o'],
+    &[0, b'a', b'u', b't', b'o'],
+    &[b'1'; 5000],
+    &[b'#'; 4097],
+    &[b' '; 5000],
 ];
+
+// the first of these bytes that are a line
+fn first_read(alloc: Global) -> Option<usize> {
+    for place in 0..OTHER_BYTES.len() {
+        if !is_outside(alloc, OTHER_BYTES[place]) {
+            return Some(place);
+        }
+    }
+    None
+}
+
+#[test]
+fn other_bytes_are_outside(rt: HostRuntime) {
+    assert_eq!(rt; first_read(rt.alloc()), None);
+    assert!(rt; !is_outside(rt.alloc(), &[b'#'; 4096]));
+}
+
+/// A command with bytes: what stands before them and after them, their digits, and what it is.
+type Counted = (&'static str, &'static str, u32, Is);
+
+const IN_CRYPT: &str = "submit 1 0 crypt cbc encrypt K - 00 ";
+
+const IN_EXTRA: &str = "submit 1 0 extra 1 K ";
+
+const IN_IMPORT: &str = "submit 1 0 import K clear ";
+
+const SEALED: &str = "submit 1 0 import K sealed K2 ";
 
 // 1,024 bytes are the most of a crypt command, and 64 of a key's value
-#[test]
-fn bytes_up_to_the_most_are_read(rt: HostRuntime) -> Result<(), Fail> {
-    for &(front, end, most) in BYTES {
-        for digits in [2, 16, 64, most - 2, most] {
-            let line = digits_between(rt.alloc(), front, digits, end)?;
-            let again = is_printed_again(rt.alloc(), line.items())?;
-            assert!(rt; again, "{digits} digits");
-        }
-    }
-    Ok(())
-}
+const COUNTED: &[Counted] = &[
+    (IN_CRYPT, "", 2048, Is::Same),
+    (IN_CRYPT, "", 0, Is::Outside),
+    (IN_CRYPT, "", 2047, Is::Outside),
+    (IN_CRYPT, "", 2049, Is::Outside),
+    (IN_CRYPT, "", 2050, Is::Outside),
+    (IN_EXTRA, "", 2048, Is::Same),
+    (IN_EXTRA, "", 2050, Is::Outside),
+    (IN_IMPORT, " 0002 none", 128, Is::Same),
+    (IN_IMPORT, " 0002 none", 127, Is::Outside),
+    (IN_IMPORT, " 0002 none", 130, Is::Outside),
+    (SEALED, " FFFF self", 128, Is::Same),
+    (SEALED, " FFFF self", 0, Is::Outside),
+    (SEALED, " FFFF self", 130, Is::Outside),
+    (SEALED, " FFFF self", 100_000, Is::Outside),
+];
 
-#[test]
-fn other_counts_of_digits_are_outside(rt: HostRuntime) -> Result<(), Fail> {
-    for &(front, end, most) in BYTES {
-        for digits in [0, 1, 15, most - 1, most + 1, most + 2, 2 * most, 1_000_000] {
-            let line = digits_between(rt.alloc(), front, digits, end)?;
-            assert!(rt; is_outside(rt.alloc(), line.items()), "{digits} digits");
-        }
+// so many digits between two texts
+fn digits_between(alloc: Global, counted: &Counted) -> Result<Octets, NoMemory> {
+    let mut line = Octets::copy(alloc, counted.0.as_bytes())?;
+    for _ in 0..counted.2 {
+        line.push(b'7')?;
     }
-    Ok(())
-}
-
-// what a line says
-fn said(alloc: Global, line: &[u8]) -> Result<Line, Fail> {
-    let line = read_line(alloc, line).ok().ok_or("no line")?;
+    writing::write_word(counted.1, &mut line)?;
     Ok(line)
 }
 
-// the command that a line submits
-fn command_of(line: &Line) -> Result<&Command, Fail> {
-    match line {
-        Line::Do(Step::Submit(_, _, command)) => Ok(command),
-        _ => Err("no command")?,
+// whether so many digits are what they are to be
+fn is_counted_so(alloc: Global, counted: &Counted) -> bool {
+    match digits_between(alloc, counted) {
+        Ok(line) => is_so(alloc, line.items(), counted.3),
+        Err(NoMemory) => false,
     }
 }
 
-// whether it is the import in clear with these bytes, uses and check mode
-fn is_clear_import(command: &Command, value: &[u8], uses: u16, verify: Verify) -> bool {
+// the first number of digits that is otherwise
+fn wrong_count(alloc: Global) -> Option<usize> {
+    for place in 0..COUNTED.len() {
+        if !is_counted_so(alloc, &COUNTED[place]) {
+            return Some(place);
+        }
+    }
+    None
+}
+
+#[test]
+fn bytes_up_to_the_most_are_read(rt: HostRuntime) {
+    assert_eq!(rt; wrong_count(rt.alloc()), None);
+}
+
+// one for true
+fn number(holds: bool) -> u64 {
+    if holds { 1 } else { 0 }
+}
+
+// numbers that tell the fields of a PIN command
+fn request_numbers(request: &PinRequest) -> [u64; 4] {
+    match request {
+        PinRequest::Block(block) => [
+            block.key.text().len() as u64,
+            block.customer.items().len() as u64,
+            u64::from(block.pad),
+            number(block.xor.is_some()),
+        ],
+        PinRequest::Check(check) => [
+            check.validation.items().len() as u64,
+            check.offset.items().len() as u64,
+            u64::from(check.count),
+            number(check.no_zero),
+        ],
+        PinRequest::Extra(extra) => [
+            u64::from(extra.kind),
+            extra.key.text().len() as u64,
+            extra.body.items().len() as u64,
+            0,
+        ],
+    }
+}
+
+// numbers that tell the fields of a command
+fn command_numbers(command: &Command) -> [u64; 4] {
     match command {
-        Command::ImportKey(
-            ImportRequest {
-                source: ImportSource::Clear(bytes),
-                uses: read_uses,
-                verify: read_verify,
-                ..
-            },
-        ) => bytes.items() == value && *read_uses == uses && *read_verify == verify,
-        _ => false,
+        Command::GetPin(rules) => [
+            u64::from(rules.min),
+            u64::from(rules.max),
+            u64::from(rules.active.fdks),
+            u64::from(rules.terminate.keys),
+        ],
+        Command::SecureKeyEntry(rules) => [
+            u64::from(rules.count),
+            number(rules.auto_end),
+            u64::from(rules.active.keys),
+            u64::from(rules.terminate.fdks),
+        ],
+        Command::MaintainPin(on) => [number(*on), 0, 0, 0],
+        Command::Pin(request) => request_numbers(request),
+        Command::ImportKey(request) => [
+            request.name.text().len() as u64,
+            u64::from(request.uses),
+            number(matches!(request.source, ImportSource::Part)),
+            0,
+        ],
+        Command::Crypt(request) => [
+            request.key.text().len() as u64,
+            u64::from(request.pad),
+            request.body.items().len() as u64,
+            0,
+        ],
+        _ => [0; 4],
     }
 }
 
-// imports in clear, and their bytes, uses and check modes
-const CLEAR_IMPORTS: &[(&str, &[u8], u16, Verify)] = &[
+// numbers that tell the fields of a line
+fn line_numbers(line: &Line) -> [u64; 4] {
+    match line {
+        Line::Do(Step::Submit(_, _, command)) => command_numbers(command),
+        Line::Do(Step::Listen(session, classes)) => [
+            u64::from(session.get()),
+            number(classes.service),
+            number(classes.execute),
+            0,
+        ],
+        Line::Do(Step::Cancel(session, id)) => { [u64::from(session.get()), u64::from(*id), 0, 0] }
+        Line::Do(Step::Tick(ticks)) => [u64::from(*ticks), 0, 0, 0],
+        Line::Do(Step::Ask(session, Question::Reply(id))) => {
+            [u64::from(session.get()), u64::from(*id), 1, 0]
+        }
+        Line::Arm(call, Strike::Cut(Keep::Fill(byte))) => {
+            [u64::from(*call), u64::from(*byte), 0, 0]
+        }
+        Line::Arm(call, Strike::Cut(Keep::Old)) => [u64::from(*call), 0, 1, 0],
+        Line::Arm(call, Strike::Cut(Keep::New)) => [u64::from(*call), 0, 2, 0],
+        Line::Arm(call, Strike::Fail) => [u64::from(*call), 0, 3, 0],
+        Line::Auto => [0, 0, 4, 0],
+        Line::Blank => [0, 0, 5, 0],
+        _ => [0; 4],
+    }
+}
+
+// lines, and numbers that tell their fields
+const FIELDS: &[(&str, [u64; 4])] = &[
+    (GETPIN, [4, 16, 0x8000_0001, 0x0003_0000]),
+    (KEYENTRY, [32, 1, 0x001F_FFFF, 2]),
+    ("submit 1 0 maintain on", [1, 0, 0, 0]),
+    ("submit 1 0 maintain off", [0, 0, 0, 0]),
+    (PINBLOCK, [9, 12, 15, 1]),
+    (LOCALDES, [4, 3, 5, 1]),
     (
-        IMPORT,
-        &[0x01, 0x23, 0x45, 0x67, 0x89, 0xAB, 0xCD, 0xEF],
-        2,
-        Verify::Nothing,
+        "submit 1 0 localdes K 1 2 - 3 lead 0123456789012345",
+        [1, 0, 3, 0],
     ),
-    (
-        "submit 1 0 import K clear 5A 0000 none",
-        &[0x5A],
-        0,
-        Verify::Nothing,
-    ),
-    (
-        "submit 1 0 import K clear 5A 8421 self",
-        &[0x5A],
-        0x8421,
-        Verify::Own,
-    ),
-    (
-        "submit 1 0 import K clear 5A FFFF zero",
-        &[0x5A],
-        0xFFFF,
-        Verify::Zero,
-    ),
+    (EXTRA, [254, 1, 3, 0]),
+    (IMPORT, [7, 0x8421, 0, 0]),
+    ("submit 1 0 import K part 00FF none", [1, 0x00FF, 1, 0]),
+    (CRYPT, [8, 0xA5, 3, 0]),
+    ("listen 3 service", [3, 1, 0, 0]),
+    ("listen 16 execute", [16, 0, 1, 0]),
+    ("cancel 16 4294967295", [16, 4_294_967_295, 0, 0]),
+    ("tick 1000000", [1_000_000, 0, 0, 0]),
+    ("ask 2 reply 10", [2, 10, 1, 0]),
+    ("cut 1000 fill 7A", [1000, 0x7A, 0, 0]),
+    ("cut 1 old", [1, 0, 1, 0]),
+    ("cut 12 new", [12, 0, 2, 0]),
+    ("fail 1000", [1000, 0, 3, 0]),
+    ("auto", [0, 0, 4, 0]),
+    ("", [0, 0, 5, 0]),
+    ("#", [0, 0, 5, 0]),
+    ("# open 1", [0, 0, 5, 0]),
 ];
 
-#[test]
-fn imports_in_clear_have_their_fields(rt: HostRuntime) -> Result<(), Fail> {
-    for &(text, value, uses, verify) in CLEAR_IMPORTS {
-        let line = said(rt.alloc(), text.as_bytes())?;
-        let same = is_clear_import(command_of(&line)?, value, uses, verify);
-        assert!(rt; same, "{text} is read otherwise");
-    }
-    Ok(())
-}
-
-// whether this key is the one that the command imports or deletes
-fn names_key(command: &Command, name: &str) -> bool {
-    match command {
-        Command::ImportKey(request) => request.name.text() == name.as_bytes(),
-        Command::DeleteKey(key) => key.text() == name.as_bytes(),
-        _ => false,
+// whether the line has these fields
+fn has_fields(alloc: Global, line: &[u8], numbers: &[u64; 4]) -> bool {
+    match read_line(alloc, line) {
+        Ok(line) => line_numbers(&line) == *numbers,
+        Err(_) => false,
     }
 }
 
-// whether it is the import that SEALED says, but for the key's name
-fn is_sealed_import(command: &Command) -> bool {
-    match command {
-        Command::ImportKey(
-            ImportRequest {
-                source: ImportSource::Sealed(key, value),
-                uses: 0x8421,
-                verify: Verify::Zero,
-                ..
-            },
-        ) => key.text() == "SEAL_KEY".as_bytes() && value.items() == [0x00, 0xFF, 0xA5].as_slice(),
-        _ => false,
-    }
-}
-
-#[test]
-fn key_commands_have_their_fields(rt: HostRuntime) -> Result<(), Fail> {
-    for (text, name) in [
-        (IMPORT, "PIN_KEY_1"),
-        (SEALED, "NEW_KEY"),
-        (DELETE, "OLD_KEY"),
-    ] {
-        let line = said(rt.alloc(), text.as_bytes())?;
-        assert!(rt;
-            names_key(command_of(&line)?, name),
-            "{text} is read otherwise"
-        );
-    }
-    assert!(rt; is_sealed_import(command_of(&said(rt.alloc(), SEALED.as_bytes())?)?));
-    let line = said(rt.alloc(), RSA.as_bytes())?;
-    assert!(rt; matches!(command_of(&line)?, Command::RsaImport));
-    Ok(())
-}
-
-// whether it is the PIN block that PINBLOCK says
-fn is_block(command: &Command) -> bool {
-    match command {
-        Command::Pin(
-            PinRequest::Block(
-                BlockRequest {
-                    form: Form::Iso0,
-                    key,
-                    second: None,
-                    xor: None,
-                    customer,
-                    pad: 15,
-                },
-            ),
-        ) => {
-            key.text() == "PIN_KEY_1".as_bytes()
-                && customer.items() == [1, 2, 3, 4, 5, 6, 7, 8, 9, 0, 1, 2].as_slice()
+// the first line of the list that has other fields
+fn wrong_fields(alloc: Global, lines: &[(&str, [u64; 4])]) -> Option<usize> {
+    for place in 0..lines.len() {
+        if !has_fields(alloc, lines[place].0.as_bytes(), &lines[place].1) {
+            return Some(place);
         }
-        _ => false,
     }
+    None
 }
 
-// whether it is the crypt command that CRYPT says
-fn is_crypt(command: &Command) -> bool {
-    match command {
-        Command::Crypt(
-            CryptRequest {
-                algorithm: Algorithm::Cbc,
-                direction: Direction::Decrypt,
-                key,
-                start: Start::Sealed(name, block),
-                pad: 0xA5,
-                body,
-            },
-        ) => {
-            key.text() == "DATA_KEY".as_bytes()
-                && name.text() == "START_KEY".as_bytes()
-                && *block == Block([0xFE, 0xDC, 0xBA, 0x98, 0x76, 0x54, 0x32, 0x10])
-                && body.items() == [0x01, 0x23, 0xFF].as_slice()
+#[test]
+fn lines_have_their_fields(rt: HostRuntime) {
+    assert_eq!(rt; wrong_fields(rt.alloc(), FIELDS), None);
+}
+
+// whether a press is printed with its key, and without it where it is masked
+fn masks_press(alloc: Global) -> bool {
+    match Digit::new(7) {
+        Some(digit) => {
+            let press = Step::Press(Key::Digit(digit));
+            prints(alloc, &press, true, "press *".as_bytes())
+                && prints(alloc, &press, false, "press 7".as_bytes())
         }
-        _ => false,
+        None => false,
     }
 }
 
 #[test]
-fn blocks_and_crypts_have_their_fields(rt: HostRuntime) -> Result<(), Fail> {
-    let line = said(rt.alloc(), PINBLOCK.as_bytes())?;
-    assert!(rt; is_block(command_of(&line)?));
-    let line = said(rt.alloc(), CRYPT.as_bytes())?;
-    assert!(rt; is_crypt(command_of(&line)?));
-    Ok(())
-}
-
-// whether the line arms this call so
-fn arms(line: &Line, number: u32, strike: Strike) -> bool {
-    match line {
-        Line::Arm(call, armed) => *call == number && *armed == strike,
-        _ => false,
-    }
-}
-
-#[test]
-fn armings_have_their_call_and_strike(rt: HostRuntime) -> Result<(), Fail> {
-    for &(text, call, strike) in ARMINGS {
-        let line = said(rt.alloc(), text.as_bytes())?;
-        assert!(rt; arms(&line, call, strike), "{text} is read otherwise");
-    }
-    Ok(())
-}
-
-// the words of classes: whether service and execute events are heard
-const CLASSES: &[(&str, bool, bool)] = &[
-    ("listen 1 none", false, false),
-    ("listen 1 service", true, false),
-    ("listen 1 execute", false, true),
-    ("listen 1 both", true, true),
-];
-
-// whether a session is to hear these classes
-fn hears(line: &Line, classes: Classes) -> bool {
-    match line {
-        Line::Do(Step::Listen(_, heard)) => *heard == classes,
-        _ => false,
-    }
-}
-
-#[test]
-fn listens_have_their_classes(rt: HostRuntime) -> Result<(), Fail> {
-    for &(text, service, execute) in CLASSES {
-        let line = said(rt.alloc(), text.as_bytes())?;
-        assert!(rt;
-            hears(&line, Classes { service, execute }),
-            "{text} is read otherwise"
-        );
-    }
-    let auto = said(rt.alloc(), "auto".as_bytes())?;
-    assert!(rt; matches!(auto, Line::Auto));
-    Ok(())
-}
-
-// what is printed of keys: nothing for a number that no key has
-#[test]
-fn keys_are_printed(rt: HostRuntime) -> Result<(), Fail> {
-    let keys = [
-        (Key::Hex(10), "A"),
-        (Key::Hex(15), "F"),
-        (Key::Help, "help"),
-        (Key::Fdk(1), "fdk1"),
-        (Key::Fdk(32), "fdk32"),
-        (Key::Hex(9), ""),
-        (Key::Hex(16), ""),
-        (Key::Fdk(0), ""),
-        (Key::Fdk(33), ""),
-    ];
-    for (key, word) in keys {
-        let mut text = Octets::empty(rt.alloc());
-        writing::write_key(key, &mut text)?;
-        assert!(rt; text.items() == word.as_bytes(), "not {word}");
-    }
-    Ok(())
-}
-
-// whether this is printed of the step
-fn prints(alloc: Global, step: &Step, masked: bool, line: &str) -> Result<bool, Fail>
-    requires { IsTrue (is_taken_today step.now) }
-{
-    let mut text = Octets::empty(alloc);
-    write_step(alloc, step, masked, &mut text)?;
-    Ok(text.items() == line.as_bytes())
-}
-
-// what no line of the script spells yet, as the transcript prints it
-#[test]
-fn steps_are_printed(rt: HostRuntime) -> Result<(), Fail> {
-    let press = Step::Press(Key::Digit(Digit::new(7).ok_or("digit")?));
-    assert!(rt; prints(rt.alloc(), &Step::Begin, false, "begin")?);
-    assert!(rt; prints(rt.alloc(), &Step::Finish, false, "finish")?);
-    assert!(rt; prints(rt.alloc(), &press, true, "press *")?);
-    assert!(rt; prints(rt.alloc(), &press, false, "press 7")?);
-    Ok(())
-}
-
-#[test]
-fn words_are_printed(rt: HostRuntime) -> Result<(), Fail> {
-    let mut text = Octets::empty(rt.alloc());
-    for (service, execute) in [(false, false), (true, false), (false, true), (true, true)] {
-        writing::write_classes(Classes { service, execute }, &mut text)?;
-        writing::write_word(" ", &mut text)?;
-    }
-    for number in [0, 4_294_967_295] {
-        writing::write_number(rt.alloc(), number, &mut text)?;
-        writing::write_word(" ", &mut text)?;
-    }
-    assert!(rt; text.items() == "none service execute both 0 4294967295 ".as_bytes());
-    Ok(())
+fn masked_presses_are_printed_without_their_key(rt: HostRuntime) {
+    assert!(rt; masks_press(rt.alloc()));
 }

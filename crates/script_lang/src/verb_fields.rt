@@ -1,9 +1,9 @@
 //! Tables of first words, and what they read and write.
 ghost use Rattle.std.specs.Prelude.{◌≡◌};
-ghost use Rattle.script_lang.specs.Reading.{read_command_verb, read_keep_verb, read_line_verb, read_source_kind};
-ghost use Rattle.script_lang.specs.Words.{command_verb_text, keep_verb_text, line_verb_text, source_kind_text};
+ghost use Rattle.script_lang.specs.Reading.{read_command_verb, read_keep_verb, read_line_verb, read_question_verb, read_source_kind};
+ghost use Rattle.script_lang.specs.Words.{command_verb_text, keep_verb_text, line_verb_text, question_verb_text, source_kind_text};
 
-use crate::kinds::{CommandVerb, KeepVerb, LineVerb, SourceKind};
+use crate::kinds::{CommandVerb, KeepVerb, LineVerb, QuestionVerb, SourceKind};
 use spelled_words::{Spelled, value_of, word_of};
 
 // first words of lines
@@ -44,7 +44,7 @@ pub fn line_verb_word(verb: LineVerb) -> &'static str
 }
 
 // first words of commands
-const COMMAND_VERBS: [Spelled<CommandVerb>; 11] = [
+const COMMAND_VERBS: [Spelled<CommandVerb>; 13] = [
     Spelled(CommandVerb::GetPin, "getpin"),
     Spelled(CommandVerb::GetData, "getdata"),
     Spelled(CommandVerb::KeyEntry, "keyentry"),
@@ -56,6 +56,8 @@ const COMMAND_VERBS: [Spelled<CommandVerb>; 11] = [
     Spelled(CommandVerb::Reset, "reset"),
     Spelled(CommandVerb::Rsa, "rsa"),
     Spelled(CommandVerb::Crypt, "crypt"),
+    Spelled(CommandVerb::LocalDes, "localdes"),
+    Spelled(CommandVerb::Extra, "extra"),
 ];
 
 // the command's verb that this word spells
@@ -72,6 +74,30 @@ pub fn command_verb_word(verb: CommandVerb) -> &'static str
     ensures { result.now ≡ command_verb_text verb }
 {
     word_of(&COMMAND_VERBS, verb)
+}
+
+// first words of questions
+const QUESTION_VERBS: [Spelled<QuestionVerb>; 4] = [
+    Spelled(QuestionVerb::Status, "status"),
+    Spelled(QuestionVerb::Key, "key"),
+    Spelled(QuestionVerb::Names, "names"),
+    Spelled(QuestionVerb::Reply, "reply"),
+];
+
+// the question's verb that this word spells
+#[tactic(auto, unfolding(crate::specs::Reading::read_question_verb))]
+pub fn read_question_verb(word: &[u8]) -> Option<QuestionVerb>
+    ensures { result ≡ read_question_verb word.now }
+{
+    value_of(&QUESTION_VERBS, word)
+}
+
+// the word of a question's verb
+#[tactic(auto, unfolding(crate::specs::Words::question_verb_text))]
+pub fn question_verb_word(verb: QuestionVerb) -> &'static str
+    ensures { result.now ≡ question_verb_text verb }
+{
+    word_of(&QUESTION_VERBS, verb)
 }
 
 // first words of what a power cut makes of bytes

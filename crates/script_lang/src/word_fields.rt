@@ -1,7 +1,7 @@
 //! Tables of words, each value beside its word, and what they read and write.
 ghost use Rattle.std.specs.Prelude.{◌≡◌};
-ghost use Rattle.script_lang.specs.Reading.{read_end, read_classes, read_verify, read_form, read_algorithm, read_direction};
-ghost use Rattle.script_lang.specs.Words.{end_text, classes_text, verify_text, form_text, algorithm_text, direction_text};
+ghost use Rattle.script_lang.specs.Reading.{read_end, read_switch, read_zero, read_classes, read_verify, read_form, read_algorithm, read_direction};
+ghost use Rattle.script_lang.specs.Words.{end_text, switch_text, zero_text, classes_text, verify_text, form_text, algorithm_text, direction_text};
 
 use pad_steps::{Algorithm, Classes, Form, Verify};
 use pad_words::Direction;
@@ -24,6 +24,44 @@ pub fn end_word(auto_end: bool) -> &'static str
     ensures { result.now ≡ end_text auto_end }
 {
     word_of(&ENDS, auto_end)
+}
+
+// whether the PIN is kept
+const SWITCHES: [Spelled<bool>; 2] = [Spelled(true, "on"), Spelled(false, "off")];
+
+// whether the PIN is kept, by its word
+#[tactic(auto, unfolding(crate::specs::Reading::read_switch))]
+pub fn read_switch(word: &[u8]) -> Option<bool>
+    ensures { result ≡ read_switch word.now }
+{
+    value_of(&SWITCHES, word)
+}
+
+// the word of whether the PIN is kept
+#[tactic(auto, unfolding(crate::specs::Words::switch_text))]
+pub fn switch_word(on: bool) -> &'static str
+    ensures { result.now ≡ switch_text on }
+{
+    word_of(&SWITCHES, on)
+}
+
+// whether a first zero is replaced
+const ZEROS: [Spelled<bool>; 2] = [Spelled(false, "lead"), Spelled(true, "nolead")];
+
+// whether a first zero is replaced, by its word
+#[tactic(auto, unfolding(crate::specs::Reading::read_zero))]
+pub fn read_zero(word: &[u8]) -> Option<bool>
+    ensures { result ≡ read_zero word.now }
+{
+    value_of(&ZEROS, word)
+}
+
+// the word of whether a first zero is replaced
+#[tactic(auto, unfolding(crate::specs::Words::zero_text))]
+pub fn zero_word(no_zero: bool) -> &'static str
+    ensures { result.now ≡ zero_text no_zero }
+{
+    word_of(&ZEROS, no_zero)
 }
 
 // the classes of events that a session hears

@@ -2,7 +2,7 @@
 ghost use Rattle.std.specs.Prelude.{◌≡◌, ◌<◌, ◌++◌, OnOk, OnErr, IfSome, IsTrue};
 ghost use Rattle.std.specs.Option.{option_copied};
 ghost use Rattle.std.specs.Fmt.{decimal};
-ghost use Rattle.pad_steps.specs.Today.{is_taken_today};
+ghost use Rattle.pad_steps.specs.Formed.{is_well_formed};
 ghost use Rattle.key_source.specs.KeyWords.{key_text};
 ghost use Rattle.script_lang.specs.Words.{classes_text, hex_digit};
 ghost use Rattle.script_lang.specs.Spelling.{unless_masked, shown_text};
@@ -70,7 +70,7 @@ pub fn shown_step(step: &Step, masked: bool) -> Option<&Step>
 
 /// Puts the line of a shown step last, without a line feed: `press *` for none.
 pub fn write_shown(alloc: Global, shown: Option<&Step>, text: &mut Octets) -> Result<(), NoMemory>
-    requires { IfSome shown (λ step. IsTrue (is_taken_today step.now)) }
+    requires { IfSome shown (λ step. IsTrue (is_well_formed step.now)) }
     ensures ok { OnOk result (text.new ≡ text.old ++ shown_text (option_copied shown.entry)) }
     ensures err { OnErr result (text.new ≡ text.old) }
 {
@@ -86,7 +86,7 @@ pub fn write_step(
     masked: bool,
     text: &mut Octets,
 ) -> Result<(), NoMemory>
-    requires { IsTrue (is_taken_today step.now) }
+    requires { IsTrue (is_well_formed step.now) }
     ensures ok { OnOk result (text.new ≡ text.old ++ shown_text (unless_masked masked step.now)) }
     ensures err { OnErr result (text.new ≡ text.old) }
 {

@@ -1,7 +1,7 @@
 //! The lines of a step put behind a text.
 ghost use Rattle.std.specs.Prelude.{◌≡◌, ◌++◌, flat_map, IfSome, IsTrue, OnOk};
 ghost use Rattle.std.specs.Option.{option_copied};
-ghost use Rattle.pad_steps.specs.Today.{is_taken_today};
+ghost use Rattle.pad_steps.specs.Formed.{is_well_formed};
 ghost use Rattle.transcript.specs.PrintedLines.{out_text, out_line, line_text, line_of_shown};
 
 use crate::disk_words::put_disk_word;
@@ -78,7 +78,7 @@ pub fn put_line(
     outs: &[Out],
     text: &mut Octets,
 ) -> Result<(), NoMemory>
-    requires { IfSome shown (λ step. IsTrue (is_taken_today step.now)) }
+    requires { IfSome shown (λ step. IsTrue (is_well_formed step.now)) }
     ensures { OnOk result (text.new ≡ text.old ++ line_text (line_of_shown (option_copied shown.entry) word.now fate outs.now)) }
 {
     write_word("> ", text)?;

@@ -4,7 +4,7 @@ ghost use Rattle.std.specs.Option.{option_copied};
 ghost use Rattle.disk_core.specs.Causes.{Rose};
 ghost use Rattle.disk_core.specs.CountedSinks.{counted_given, counted_faults};
 ghost use Rattle.disk_core.specs.Streams.{GivesFront, with_more};
-ghost use Rattle.pad_steps.specs.Today.{is_taken_today};
+ghost use Rattle.pad_steps.specs.Formed.{is_well_formed};
 ghost use Rattle.transcript.specs.PrintedLines.{line_text, line_of_shown, line_of_step};
 
 use crate::lines::put_line;
@@ -34,7 +34,7 @@ pub fn print_step<K: Sink>(
     outs: &Outs,
     sink: &mut Counted<K>,
 ) -> Result<(), PrintFault>
-    requires { IsTrue (is_taken_today step.now) }
+    requires { IsTrue (is_well_formed step.now) }
     ensures ok { OnOk result (counted_given K.given sink.new ≡
         with_more (counted_given K.given sink.old) (line_text (line_of_step step.now masked word.now fate outs.now.items))) }
     ensures err { OnErr result (GivesFront (counted_given K.given sink.old) (counted_given K.given sink.new)
@@ -55,7 +55,7 @@ fn print_shown<K: Sink>(
     outs: &Outs,
     sink: &mut Counted<K>,
 ) -> Result<(), PrintFault>
-    requires { IfSome shown (λ step. IsTrue (is_taken_today step.now)) }
+    requires { IfSome shown (λ step. IsTrue (is_well_formed step.now)) }
     ensures ok { OnOk result (counted_given K.given sink.new ≡
         with_more (counted_given K.given sink.old) (line_text (line_of_shown (option_copied shown.entry) word.now fate outs.now.items))) }
     ensures err { OnErr result (GivesFront (counted_given K.given sink.old) (counted_given K.given sink.new)

@@ -12,6 +12,9 @@ loop-c-preserved c = rw c.from.ensures record {
   same = digits_onto-more 16 hex_value c.args.word.now c.loop-c.n c.loop-c.c-index c.in_ok-digit.digit _ c.loop-c-test.true c.in_ok-digit.ensures.value c.loop-c.invariant.same;
 }
 
+pub overflow_add-n : goal.overflow_add-n
+overflow_add-n c = omega (arith, small_pow 16 c.loop-c.c-index 8 c.loop-c.n (omega arith) (omega (arith, c.requires, c.loop-c-test.true)) c.loop-c.invariant.small, c.in_ok-digit.ensures.small, c.from.ensures)
+
 pub returns-clause-value : goal.returns-clause-value
 returns-clause-value c = digits_onto-end 16 hex_value c.args.word.now c.loop-c.n c.loop-c.c-index _ c.loop-c-test.false c.loop-c.invariant.same
 

@@ -1,10 +1,11 @@
 use Rattle.std.proofs.Common.{ℕ, List, ◌++◌, ◌∷◌, [], map, ◌/◌, ◌%◌}
 use Rattle.script_lang.specs.Words.{hex_digit}
-use Rattle.script_lang.specs.Spelling.{four_values}
+use Rattle.script_lang.specs.Spelling.{four_values, mask_values}
 use Rattle.script_lang.proofs.WriteLemmas.{then_put}
 use Rattle.script_lang.proofs.put_fields.put_mask.Goals as goal
 
 pub returns : goal.returns
+unfolding mask_values
 returns c =
     let m = c.args.mask.now in
     let old : List ℕ = c.args.text.now in
