@@ -1,17 +1,17 @@
 -- What is so of commands that may wait.
-use Rattle.entry_core.specs.Entries.{Entry, entry_of, greatest_length}
+use Rattle.entry_core.specs.Entries.{Entry, entry_by, entry_of, greatest_length}
 use Rattle.entry_core.specs.Presses.{IsEntrySize}
 use Rattle.flat_machine.specs.PinFacts.{passes_submit}
-use Rattle.flat_machine.specs.RequestSteps.{import_invalid, invalid_if}
+use Rattle.flat_machine.specs.RequestSteps.{import_invalid, invalid_if, is_part_count, rules_invalid}
+use Rattle.pad_machine.specs.Prepares.{IsPartSized}
 use Rattle.pad_machine.specs.Stands.{is_admitted}
 use Rattle.pad_steps.specs.Formed.{is_pin_request, is_well_formed_command}
-use Rattle.pad_steps.specs.Today.{ending_keys, entry_keys, is_command_today, is_entry_today, is_kind_today, same_mask}
 use Rattle.pin_blocks.specs.PinRules.{PinRules}
 use Rattle.pin_blocks.specs.declared.work.AdmitFault.{AdmitFault}
 use Rattle.flat_machine.specs.PinCommands.{admit_refusal}
 use Rattle.pad_steps.specs.declared.commands.Command.{Command}
 use Rattle.pad_steps.specs.declared.commands.Command.TheVariants as command
-use Rattle.pad_steps.specs.declared.commands.EntryKind.TheVariants.{Pin}
+use Rattle.pad_steps.specs.declared.commands.EntryKind.TheVariants.{Figures, Pin}
 use Rattle.pad_steps.specs.declared.commands.EntryRules.{EntryRules}
 use Rattle.pad_steps.specs.declared.commands.ImportRequest.{ImportRequest}
 use Rattle.pad_steps.specs.declared.commands.PinRequest.{PinRequest}
@@ -20,7 +20,8 @@ use Rattle.request_queue.specs.declared.requests.Request.{Request}
 use Rattle.std.specs.Option.{option_copied}
 use Rattle.std.proofs.Common.{Bor, arith, subst, sym}
 use Rattle.std.proofs.lemmas.Bool.Decides.{nat_tests}
-use Rattle.std.specs.Prelude.{Bool, IfSome, IsTrue, None, Option, Some, false, is_some, not, option_map, refl, true, ℕ, ◌&&◌, ◌==◌, ◌≡◌, ◌≤◌}
+use Rattle.std.proofs.lemmas.Option.{same_Some}
+use Rattle.std.specs.Prelude.{Bool, IfSome, IsTrue, None, Option, Some, false, if◌then◌else◌, is_some, not, option_map, refl, true, ℕ, ◌&&◌, ◌==◌, ◌≡◌, ◌≤◌}
 
 pub both_left : (a b : Bool) → (a && b) ≡ true → a ≡ true
 both_left true b e = refl
@@ -30,14 +31,14 @@ pub both_right : (a b : Bool) → (a && b) ≡ true → b ≡ true
 both_right true b e = e
 both_right false b e = cc
 
-admitted-today : (pin_rules : PinRules) → (c : Command) → IsTrue (is_admitted pin_rules c) → is_command_today c ≡ true
-admitted-today pin_rules c admitted = both_left (is_command_today c) (passes_submit pin_rules c) admitted
+admitted-formed : (pin_rules : PinRules) → (c : Command) → IsTrue (is_admitted pin_rules c) → is_well_formed_command c ≡ true
+admitted-formed pin_rules c admitted = both_left (is_well_formed_command c) (passes_submit pin_rules c) admitted
 
 admitted-passes : (pin_rules : PinRules) → (c : Command) → IsTrue (is_admitted pin_rules c) → passes_submit pin_rules c ≡ true
-admitted-passes pin_rules c admitted = both_right (is_command_today c) (passes_submit pin_rules c) admitted
+admitted-passes pin_rules c admitted = both_right (is_well_formed_command c) (passes_submit pin_rules c) admitted
 
 pub pin-formed : (pin_rules : PinRules) → (c : Command) (request : PinRequest) → c ≡ command.Pin request → IsTrue (is_admitted pin_rules c) → is_pin_request request ≡ true
-pin-formed pin_rules c request is admitted = both_left (is_pin_request request) (is_kind_today (command.Pin request)) (admitted-today pin_rules (command.Pin request) (subst (λ (d : Command). IsTrue (is_admitted pin_rules d)) is admitted))
+pin-formed pin_rules c request is admitted = admitted-formed pin_rules (command.Pin request) (subst (λ (d : Command). IsTrue (is_admitted pin_rules d)) is admitted)
 
 none_admitted : (fault : Option AdmitFault) → not (is_some (option_map admit_refusal fault)) ≡ true → fault ≡ None
 none_admitted None e = refl
@@ -46,49 +47,65 @@ none_admitted (Some fault) e = cc
 pub pin-admitted : (pin_rules : PinRules) → (c : Command) (request : PinRequest) → c ≡ command.Pin request → IsTrue (is_admitted pin_rules c) → pin_rules.admit request ≡ None
 pin-admitted pin_rules c request is admitted = none_admitted (pin_rules.admit request) (admitted-passes pin_rules (command.Pin request) (subst (λ (d : Command). IsTrue (is_admitted pin_rules d)) is admitted))
 
--- an entry takes no more digits than one of its kind may, and is one of a PIN
-
-rules-max : (rules : EntryRules) → is_entry_today rules ≡ true → rules.max ≡ 16
-rules-max rules e =
-    let most = both_right (rules.min == 4) (rules.max == 16) (both_left ((rules.min == 4) && (rules.max == 16)) (not rules.auto_end)
-    (both_left ((rules.min == 4) && (rules.max == 16) && not rules.auto_end) (same_mask rules.active entry_keys)
-    (both_left ((rules.min == 4) && (rules.max == 16) && not rules.auto_end && same_mask rules.active entry_keys) (same_mask rules.terminate ending_keys) e))) in
-    grind (arith, nat_tests, most)
-
-record IsPlain (c : Command) : Type 0 where
-  size : IsEntrySize (entry_of c)
-  pin : (entry : Entry) → Some entry ≡ entry_of c → entry.kind ≡ Pin
-
-same_kind : (entry other : Entry) → other.kind ≡ Pin → Some entry ≡ Some other → entry.kind ≡ Pin
-same_kind entry other pin e = cc
-
-plain : (c : Command) → is_kind_today c ≡ true → IsPlain c
-plain (command.GetPin rules) e = record { size = subst (λ (most : ℕ). greatest_length most ≤ 16) (sym (rules-max rules e)) (omega arith); pin = λ entry is. same_kind entry _ refl is }
-plain (command.GetData rules) e = absurd cc
-plain (command.SecureKeyEntry rules) e = absurd cc
-plain (command.MaintainPin on) e = absurd cc
-plain (command.Pin request) e = record { size = tt; pin = λ entry is. cc }
-plain (command.Crypt request) e = record { size = tt; pin = λ entry is. cc }
-plain (command.ImportKey request) e = record { size = tt; pin = λ entry is. cc }
-plain (command.DeleteKey name) e = record { size = tt; pin = λ entry is. cc }
-plain command.Init e = record { size = tt; pin = λ entry is. cc }
-plain command.Reset e = record { size = tt; pin = λ entry is. cc }
-plain command.RsaImport e = record { size = tt; pin = λ entry is. cc }
-
-admitted-plain : (pin_rules : PinRules) → (c : Command) → IsTrue (is_admitted pin_rules c) → IsPlain c
-admitted-plain pin_rules c admitted = plain c (both_right (is_well_formed_command c) (is_kind_today c) (admitted-today pin_rules c admitted))
-
-pub admitted_size : (pin_rules : PinRules) → (c : Command) → IsTrue (is_admitted pin_rules c) → IsEntrySize (entry_of c)
-admitted_size pin_rules c admitted = (admitted-plain pin_rules c admitted).size
-
-pub admitted_pin : (pin_rules : PinRules) → (c : Command) (entry : Entry) → IsTrue (is_admitted pin_rules c) → Some entry ≡ entry_of c → entry.kind ≡ Pin
-admitted_pin pin_rules c entry admitted is = (admitted-plain pin_rules c admitted).pin entry is
-
--- an import is valid
-
+-- what is not refused INVALIDDATA is valid
 valid : (b : Bool) → not (is_some (invalid_if b)) ≡ true → b ≡ false
 valid true e = cc
 valid false e = refl
+
+-- an entry takes no more digits than one of its kind may
+
+at_most_16 : (stands : Bool) (most : ℕ) → most ≤ 16 → (if stands then 16 else most) ≤ 16
+at_most_16 true most few = omega arith
+at_most_16 false most few = few
+
+greatest-few : (rules : EntryRules) → rules_invalid rules ≡ false → greatest_length rules.max ≤ 16
+greatest-few rules passes = at_most_16 (rules.max == 0) rules.max (grind (arith, nat_tests, passes))
+
+part-few : (count : ℕ) → is_part_count count ≡ true → count ≤ 48
+part-few count counted = grind (arith, nat_tests, counted)
+
+counted : (b : Bool) → not (is_some (invalid_if (not b))) ≡ true → b ≡ true
+counted true e = refl
+counted false e = cc
+
+passed_size : (pin_rules : PinRules) (c : Command) → passes_submit pin_rules c ≡ true → IsEntrySize (entry_of c)
+passed_size pin_rules (command.GetPin rules) passes = greatest-few rules (valid (rules_invalid rules) passes)
+passed_size pin_rules (command.GetData rules) passes = greatest-few rules (valid (rules_invalid rules) passes)
+passed_size pin_rules (command.SecureKeyEntry rules) passes = part-few rules.count (counted (is_part_count rules.count) passes)
+passed_size pin_rules (command.MaintainPin on) passes = tt
+passed_size pin_rules (command.Pin request) passes = tt
+passed_size pin_rules (command.Crypt request) passes = tt
+passed_size pin_rules (command.ImportKey request) passes = tt
+passed_size pin_rules (command.DeleteKey name) passes = tt
+passed_size pin_rules command.Init passes = tt
+passed_size pin_rules command.Reset passes = tt
+passed_size pin_rules command.RsaImport passes = tt
+
+pub admitted_size : (pin_rules : PinRules) → (c : Command) → IsTrue (is_admitted pin_rules c) → IsEntrySize (entry_of c)
+admitted_size pin_rules c admitted = passed_size pin_rules c (admitted-passes pin_rules c admitted)
+
+-- one of a key part takes 16, 32 or 48, and no fewer
+
+as_sized : (entry other : Entry) → IsPartSized other → Some entry ≡ Some other → IsPartSized entry
+as_sized entry other sized is = subst IsPartSized (same_Some other entry (sym is)) sized
+
+passed_part : (pin_rules : PinRules) (c : Command) (entry : Entry) → passes_submit pin_rules c ≡ true → Some entry ≡ entry_of c → IsPartSized entry
+passed_part pin_rules (command.GetPin rules) entry passes is = as_sized entry (entry_by Pin rules) (record { count = λ part. cc; whole = λ part. cc }) is
+passed_part pin_rules (command.GetData rules) entry passes is = as_sized entry (entry_by Figures rules) (record { count = λ part. cc; whole = λ part. cc }) is
+passed_part pin_rules (command.SecureKeyEntry rules) entry passes is = as_sized entry _ (record { count = λ part. counted (is_part_count rules.count) passes; whole = λ part. refl }) is
+passed_part pin_rules (command.MaintainPin on) entry passes is = cc
+passed_part pin_rules (command.Pin request) entry passes is = cc
+passed_part pin_rules (command.Crypt request) entry passes is = cc
+passed_part pin_rules (command.ImportKey request) entry passes is = cc
+passed_part pin_rules (command.DeleteKey name) entry passes is = cc
+passed_part pin_rules command.Init entry passes is = cc
+passed_part pin_rules command.Reset entry passes is = cc
+passed_part pin_rules command.RsaImport entry passes is = cc
+
+pub admitted_part : (pin_rules : PinRules) → (c : Command) (entry : Entry) → IsTrue (is_admitted pin_rules c) → Some entry ≡ entry_of c → IsPartSized entry
+admitted_part pin_rules c entry admitted is = passed_part pin_rules c entry (admitted-passes pin_rules c admitted) is
+
+-- an import is valid
 
 pub import-valid : (pin_rules : PinRules) → (request : ImportRequest) → IsTrue (is_admitted pin_rules (command.ImportKey request)) → import_invalid request ≡ false
 import-valid pin_rules request admitted = valid (import_invalid request) (admitted-passes pin_rules (command.ImportKey request) admitted)

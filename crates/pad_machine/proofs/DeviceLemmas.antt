@@ -83,6 +83,11 @@ pub plain_keeps : (set : Setting) (old new : Whole) (prepared : Prepared) (s : D
 plain_keeps set old new prepared.Nothing s law plain is store = quiet_keeps old new _ Nothing s s law (record { keys = refl; doubt = refl; loaded = refl; device = refl }) is store refl
 plain_keeps set old new (prepared.Say only) s law plain is store = quiet_keeps old new _ Nothing s s law (record { keys = refl; doubt = refl; loaded = refl; device = refl }) is store refl
 plain_keeps set old new (prepared.Open session) s law plain is store = quiet_keeps old new _ Nothing s s law (record { keys = refl; doubt = refl; loaded = refl; device = refl }) is store refl
+plain_keeps set old new (prepared.Close session) s law plain is store = quiet_keeps old new _ Nothing s s law (record { keys = refl; doubt = refl; loaded = refl; device = refl }) is store refl
+plain_keeps set old new (prepared.Lock session) s law plain is store = quiet_keeps old new _ Nothing s s law (record { keys = refl; doubt = refl; loaded = refl; device = refl }) is store refl
+plain_keeps set old new (prepared.Unlock session) s law plain is store = quiet_keeps old new _ Nothing s s law (record { keys = refl; doubt = refl; loaded = refl; device = refl }) is store refl
+plain_keeps set old new (prepared.Cancel session floor id count) s law plain is store = quiet_keeps old new _ Nothing s s law (record { keys = refl; doubt = refl; loaded = refl; device = refl }) is store refl
+plain_keeps set old new (prepared.Tick clock) s law plain is store = quiet_keeps old new _ Nothing s s law (record { keys = refl; doubt = refl; loaded = refl; device = refl }) is store refl
 plain_keeps set old new (prepared.Submit session limit command) s law plain is store = quiet_keeps old new _ Nothing s s law (record { keys = refl; doubt = refl; loaded = refl; device = refl }) is store refl
 plain_keeps set old new (prepared.Listen session classes) s law plain is store = quiet_keeps old new _ Nothing s s law (record { keys = refl; doubt = refl; loaded = refl; device = refl }) is store refl
 plain_keeps set old new (prepared.Begin id) s law plain is store = quiet_keeps old new _ Nothing s s law (record { keys = refl; doubt = refl; loaded = refl; device = refl }) is store refl

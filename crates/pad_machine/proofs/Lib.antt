@@ -1,9 +1,10 @@
 pub mod AdmittedLemmas
 pub mod BeginLemmas
 pub mod DeviceLemmas
+pub mod EndingLemmas
 pub mod FinishLemmas
 pub mod HearerLemmas
-pub mod LossLemmas
+pub mod NamedLemmas
 pub mod PendingLemmas
 pub mod PlanLemmas
 pub mod ResetLemmas

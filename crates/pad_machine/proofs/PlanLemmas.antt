@@ -1,7 +1,6 @@
 -- What a step plans for the disk uses no fill word.
 use Rattle.flat_machine.specs.FinishSteps.{plan_finish, plan_of}
 use Rattle.flat_machine.specs.Machine.{plan}
-use Rattle.flat_machine.specs.Power.{Plan}
 use Rattle.flat_machine.specs.State.{Shared}
 use Rattle.flat_machine.specs.declared.types.Work.{Work}
 use Rattle.pad_machine.proofs.FinishLemmas.{same_work}

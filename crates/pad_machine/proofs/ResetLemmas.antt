@@ -7,7 +7,7 @@ use Rattle.flat_machine.specs.Kept.{Kept, kept_said}
 use Rattle.flat_machine.specs.Power.{Loading, word_fate}
 use Rattle.flat_machine.specs.State.{Said, Shared, dropping_pin, replies}
 use Rattle.flat_machine.specs.declared.types.Owner.{Owner}
-use Rattle.key_table.specs.KeyStores.{KeyStore, LoadsStore}
+use Rattle.key_table.specs.KeyStores.{LoadsStore}
 use Rattle.key_table.specs.declared.LoadFault.{LoadFault}
 use Rattle.pad_machine.specs.Does.{Becomes}
 use Rattle.pad_machine.specs.Replacing.{LoadedBy, after_loading}

@@ -2,32 +2,28 @@
 use Rattle.disk_core.specs.DiskStates.{DiskState}
 use Rattle.flat_machine.specs.DiskFacts.{IsKeptStore, KeepsStore}
 use Rattle.flat_machine.specs.DiskSteps.{IsReadyStore, IsTied, OnDisk, StepOnDisk, is_cut, switched}
-use Rattle.flat_machine.specs.Kept.{FitRunning, Kept, KeptAfter, kept_next}
+use Rattle.flat_machine.specs.Kept.{Kept, KeptAfter, kept_next}
 use Rattle.flat_machine.specs.KeyLayout.{key_layout}
-use Rattle.flat_machine.specs.Machine.{plan}
 use Rattle.flat_machine.specs.PinFacts.{passes_submit}
 use Rattle.flat_machine.specs.Power.{Plan}
 use Rattle.flat_machine.specs.RequestSteps.{command_refusal}
-use Rattle.flat_machine.specs.Settings.{Setting}
-use Rattle.flat_machine.specs.Sound.{Sound, SubmitsOk}
-use Rattle.flat_machine.specs.State.{Shared}
+use Rattle.flat_machine.specs.Sound.{SubmitsOk}
+use Rattle.flat_machine.specs.State.{Flat, Shared}
 use Rattle.key_source.specs.declared.Key.{Key}
 use Rattle.pad_machine.proofs.PlanLemmas.{same_plan}
 use Rattle.pad_machine.specs.Does.{Becomes}
 use Rattle.pad_machine.specs.Prepares.{IsPlanned, calls_of, deciding, effect_of, pressed, switch_of, with_key}
 use Rattle.pad_machine.specs.Runs.{PadIsTied, PadStepOnDisk}
-use Rattle.pad_machine.specs.Stands.{PadState, Whole, is_admitted, kept_by, pad_state, set_by, set_of, shared_of}
+use Rattle.pad_machine.specs.Stands.{PadState, StandsFor, Whole, is_admitted, kept_by, pad_state, set_by, set_of, shared_of}
 use Rattle.pad_machine.specs.declared.keyless.KeylessStep.{KeylessStep}
 use Rattle.pad_machine.specs.declared.prepared.Prepared.{Prepared}
 use Rattle.pad_steps.specs.Lines.{OutList}
-use Rattle.pad_steps.specs.Today.{command_today-submit, is_command_today, is_taken_today}
+use Rattle.pad_steps.specs.Formed.{is_well_formed_command-submit, is_well_formed_command, is_well_formed}
 use Rattle.pad_steps.specs.declared.answers.Out.{Out}
 use Rattle.pad_steps.specs.declared.answers.Refusal.{Refusal}
-use Rattle.pad_steps.specs.declared.commands.Command.{Command}
 use Rattle.pad_steps.specs.declared.steps.DiskWord.{DiskWord}
 use Rattle.pad_steps.specs.declared.steps.Step.TheVariants as step
 use Rattle.pad_steps.specs.declared.steps.Step.{Step}
-use Rattle.pad_words.specs.declared.numbers.Session.{Session}
 use Rattle.pin_blocks.specs.PinRules.{PinRules}
 use Rattle.std.proofs.Common.{ap, subst, sym, ◌∙◌}
 use Rattle.std.specs.Prelude.{Bool, IsTrue, List, None, Option, Some, false, if◌then◌else◌, is_some, not, refl, true, ℕ, ◌&&◌, ◌++◌, ◌≡◌}
@@ -82,6 +78,13 @@ module _ (pin_rules : PinRules) where
       subst (λ (calls : Plan). OnDisk key_layout (shared_of mid.common) (shared_of new.common) (switched (shared_of mid.common) taken) calls word s t) (sym planned.calls ∙ same_plan pin_rules mid.seed (shared_of mid.common) taken) switched_on in
       subst (λ (pad : PadState). StepOnDisk key_layout (set_of pin_rules pad.kept) pad.kept.shared (shared_of new.common) taken word s t) kept planned_on
 
+  -- the step of the pad on the disk is that of the state that it stands for
+  pub step-of_state : (seed : List ℕ) (state after : Flat) (old new : PadState) (taken : Step) (word : DiskWord) (s t : DiskState) → StandsFor old seed state → StandsFor new seed after → PadStepOnDisk pin_rules old new taken word s t
+      → StepOnDisk key_layout (set_by pin_rules seed) state.shared after.shared taken word s t
+  step-of_state seed state after old new taken word s t stands stood on =
+      subst (λ (kept : Kept). StepOnDisk key_layout (set_by pin_rules seed) state.shared kept.shared taken word s t) stood
+      (subst (λ (kept : Kept). StepOnDisk key_layout (set_by pin_rules kept.seed) kept.shared new.kept.shared taken word s t) stands on)
+
   -- a command that Submit takes may wait
 
   both_hold : (a b : Bool) → a ≡ true → b ≡ true → (a && b) ≡ true
@@ -92,13 +95,13 @@ module _ (pin_rules : PinRules) where
   none_passes None none = refl
   none_passes (Some why) none = cc
 
-  pub submits-admitted : (taken : Step) → IsTrue (is_taken_today taken) → SubmitsOk (is_admitted pin_rules) pin_rules taken
+  pub submits-admitted : (taken : Step) → IsTrue (is_well_formed taken) → SubmitsOk (is_admitted pin_rules) pin_rules taken
   submits-admitted (step.Open session) taken = tt
   submits-admitted (step.Close session) taken = tt
   submits-admitted (step.Listen session classes) taken = tt
   submits-admitted (step.Lock session) taken = tt
   submits-admitted (step.Unlock session) taken = tt
-  submits-admitted (step.Submit session limit command) taken = λ none. both_hold (is_command_today command) (passes_submit pin_rules command) (command_today-submit session limit command taken) (none_passes (command_refusal pin_rules command) none)
+  submits-admitted (step.Submit session limit command) taken = λ none. both_hold (is_well_formed_command command) (passes_submit pin_rules command) (is_well_formed_command-submit session limit command taken) (none_passes (command_refusal pin_rules command) none)
   submits-admitted (step.Cancel session id) taken = tt
   submits-admitted step.Begin taken = tt
   submits-admitted step.Finish taken = tt

@@ -1,5 +1,5 @@
 -- What a method of the pad does.
-use Rattle.flat_machine.specs.Kept.{Kept, KeptAfter, kept_said}
+use Rattle.flat_machine.specs.Kept.{KeptAfter, kept_said}
 use Rattle.flat_machine.specs.State.{Said, Shared}
 use Rattle.pad_machine.specs.Stands.{PadState, Whole, kept_by, shared_of}
 use Rattle.pad_steps.specs.Lines.{OutList}

@@ -1,4 +1,5 @@
 pub mod Does
+pub mod Endings
 pub mod Memory
 pub mod Prepares
 pub mod Replacing

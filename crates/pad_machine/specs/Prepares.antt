@@ -1,6 +1,6 @@
 -- What a prepared step does, and what it needs.
-use Rattle.device_lock.specs.LockLine.{holder_of, locked_out}
-use Rattle.entry_core.specs.Entries.{is_key_part, is_pin}
+use Rattle.device_lock.specs.LockLine.{holder_of, holds, locked_out}
+use Rattle.entry_core.specs.Entries.{Entry, is_key_part, is_pin}
 use Rattle.flat_machine.specs.Commands.{erase, work_of}
 use Rattle.flat_machine.specs.Crypts.{crypt_work}
 use Rattle.flat_machine.specs.DiskSteps.{switched}
@@ -10,7 +10,7 @@ use Rattle.flat_machine.specs.Kept.{KeptAfter, kept_next, kept_press_in, kept_sa
 use Rattle.flat_machine.specs.Machine.{plan}
 use Rattle.flat_machine.specs.PinCommands.{pin_work}
 use Rattle.flat_machine.specs.Power.{Loading, Nothing, Plan, loads, powers_off}
-use Rattle.flat_machine.specs.RequestSteps.{or_locked}
+use Rattle.flat_machine.specs.RequestSteps.{is_part_count, or_locked}
 use Rattle.flat_machine.specs.Sessions.{execute_event}
 use Rattle.flat_machine.specs.Settings.{Setting}
 use Rattle.flat_machine.specs.State.{Said, Shared, dropping_presses, is_off, owner_of, running_entry, says, unchanged}
@@ -21,15 +21,17 @@ use Rattle.key_attributes.specs.declared.KeyRow.{KeyRow}
 use Rattle.key_source.specs.declared.Key.{Key}
 use Rattle.key_table.specs.KeyRows.{KeyRows, slot_of}
 use Rattle.flat_machine.specs.WorkFacts.{is_reset}
+use Rattle.pad_machine.specs.Endings.{cancels, closes, lines_up, meant_in, ticks_to, unlocks}
 use Rattle.pad_machine.specs.Memory.{pending_in_all}
 use Rattle.pad_machine.specs.Stands.{Common, Whole, is_admitted, kept_by, running_of, set_by, shared_of}
+use Rattle.pad_machine.specs.declared.endings.Ending.TheVariants as ending
 use Rattle.pad_machine.specs.declared.keyless.KeylessStep.TheVariants as keyless
 use Rattle.pad_machine.specs.declared.keyless.KeylessStep.{KeylessStep}
 use Rattle.pad_machine.specs.declared.prepared.Prepared.TheVariants as prepared
 use Rattle.pad_machine.specs.declared.prepared.Prepared.{Prepared}
 use Rattle.pad_machine.specs.declared.running_entry.RunningEntry.{RunningEntry}
 use Rattle.pad_steps.specs.Lines.{OutList}
-use Rattle.pad_steps.specs.Today.{is_command_today}
+use Rattle.pad_steps.specs.Formed.{is_well_formed_command}
 use Rattle.pad_steps.specs.declared.answers.Answer.{Answer}
 use Rattle.pad_steps.specs.declared.answers.Event.TheVariants as events
 use Rattle.pad_steps.specs.declared.answers.Out.TheVariants as out
@@ -39,7 +41,6 @@ use Rattle.pad_steps.specs.declared.answers.Reply.TheVariants as replied
 use Rattle.pad_steps.specs.declared.answers.Told.TheVariants as told
 use Rattle.pad_steps.specs.declared.commands.Command.TheVariants as commands
 use Rattle.pad_steps.specs.declared.commands.Command.{Command}
-use Rattle.pad_steps.specs.declared.commands.EntryKind.TheVariants.{Pin}
 use Rattle.pad_steps.specs.declared.steps.DiskWord.{DiskWord}
 use Rattle.pad_steps.specs.declared.steps.Step.TheVariants as steps
 use Rattle.pad_steps.specs.declared.steps.Step.{Step}
@@ -59,17 +60,23 @@ use Rattle.std.specs.Prelude.{Bool, Err, IsNone, IsSome, IsTrue, List, None, Ok,
 abbrev pub with_key : KeylessStep → Key → Step
 with_key keyless.Press key = steps.Press key
 with_key (keyless.Open session) key = steps.Open session
+with_key (keyless.Close session) key = steps.Close session
+with_key (keyless.Lock session) key = steps.Lock session
+with_key (keyless.Unlock session) key = steps.Unlock session
 with_key (keyless.Listen session classes) key = steps.Listen session classes
 with_key (keyless.Submit session limit command) key = steps.Submit session limit command.now
+with_key (keyless.Cancel session id) key = steps.Cancel session id
 with_key keyless.Begin key = steps.Begin
 with_key keyless.Finish key = steps.Finish
+with_key (keyless.Tick ticks) key = steps.Tick ticks
+with_key (keyless.Ask session question) key = steps.Ask session question.now
 with_key keyless.Off key = steps.Off
 with_key keyless.Boot key = steps.Boot
 
--- the step may be taken: a command that is submitted is taken today
-abbrev pub IsTakenToday : KeylessStep → Type 0
-IsTakenToday (keyless.Submit session limit command) = IsTrue (is_command_today command.now)
-IsTakenToday other = Unit {0}
+-- the command of a Submit is well formed
+abbrev pub IsFormed : KeylessStep → Type 0
+IsFormed (keyless.Submit session limit command) = IsTrue (is_well_formed_command command.now)
+IsFormed other = Unit {0}
 
 -- the key that a step presses
 abbrev pub pressed : Step → Option Key
@@ -87,6 +94,11 @@ module _ (set : Setting) where
   said_of (prepared.Open session) shared held word = says
       (record shared { sessions = with_session (opened session (length shared.requests)) shared.sessions })
       (out.Told session told.Opened)
+  said_of (prepared.Close session) shared held word = closes session shared
+  said_of (prepared.Lock session) shared held word = lines_up session shared
+  said_of (prepared.Unlock session) shared held word = unlocks session shared
+  said_of (prepared.Cancel session floor id count) shared held word = cancels session floor id count shared
+  said_of (prepared.Tick clock) shared held word = ticks_to clock shared
   said_of (prepared.Submit session limit command) shared held word = says
       (record shared { requests = submitted session shared.clock limit command shared.requests })
       (out.Request session (length shared.requests + 1))
@@ -151,6 +163,10 @@ places_of common (prepared.Finish owner work told) = max (length common.sessions
 places_of common (prepared.Reset owner kept) = max (length common.sessions + 1) (pending_in_all common.requests)
 places_of common (prepared.Boot kept) = pending_in_all common.requests
 places_of common prepared.Off = pending_in_all common.requests
+places_of common (prepared.Close session) = pending_count session common.requests + 2
+places_of common (prepared.Unlock session) = 2
+places_of common (prepared.Cancel session floor id count) = length (meant_in (ending.Named session floor id) common.requests) + 1
+places_of common (prepared.Tick clock) = pending_in_all common.requests
 places_of common (prepared.Press running_entry) = 2
 places_of common other = 1
 
@@ -212,11 +228,16 @@ pub record IsUnready (old new : Common) (before after : OutList) : Type 0 where
   pub store : new.store ≡ old.store
   pub items : after.items ≡ before.items
 
--- the request in work is of this owner, and runs this entry of a PIN
+-- an entry of a key part takes 16, 32 or 48 digits, and no fewer
+pub record IsPartSized (entry : Entry) : Type 0 where
+  pub count : is_key_part entry.kind ≡ true → is_part_count entry.greatest ≡ true
+  pub whole : is_key_part entry.kind ≡ true → entry.least ≡ entry.greatest
+
+-- the request in work is of this owner, and runs this entry
 pub record IsRunning (common : Common) (current : RunningEntry) : Type 0 where
   pub at : IsInWork common.requests current.owner.id
   pub runs : running_entry (shared_of common) ≡ Some (running_of current)
-  pub pin : current.entry.kind ≡ Pin
+  pub part : IsPartSized current.entry
 
 -- a request more may wait, and there is room for it
 pub record MaySubmit (common : Common) (session : Session) : Type 0 where
@@ -244,6 +265,7 @@ module _ (pin_rules : PinRules) where
   -- what a prepared step needs of the state and of the number of digits held
   abbrev pub IsPrepared : Common → ℕ → Prepared → Type 0
   IsPrepared common count (prepared.Open session) = is_open session common.sessions ≡ false
+  IsPrepared common count (prepared.Unlock session) = holds session common.line ≡ true
   IsPrepared common count (prepared.Submit session limit command) = MaySubmit common session
   IsPrepared common count (prepared.Begin id) = IsNext common id
   IsPrepared common count (prepared.RefuseEntry owner refusal) = IsNext common owner.id

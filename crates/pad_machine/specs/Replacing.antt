@@ -2,12 +2,6 @@
 use Rattle.disk_core.specs.DiskStates.{DiskState}
 use Rattle.disk_core.specs.declared.disk.DiskError.{DiskError}
 use Rattle.disk_core.specs.declared.disk.DiskError.TheVariants as fault
-use Rattle.request_queue.specs.Requests.{ended_where, pending_where}
-use Rattle.request_queue.specs.declared.requests.RequestRow.{RequestRow}
-use Rattle.pad_steps.specs.declared.answers.Out.{Out}
-use Rattle.pad_steps.specs.declared.answers.Out.TheVariants as out
-use Rattle.pad_steps.specs.declared.answers.Reply.{Reply}
-use Rattle.pad_steps.specs.declared.commands.Command.{Command}
 use Rattle.flat_machine.specs.DiskSteps.{done_word, load_word, word_of}
 use Rattle.flat_machine.specs.Power.{powers_off}
 use Rattle.flat_machine.specs.State.{Said, Shared, replies, unchanged}
@@ -21,7 +15,7 @@ use Rattle.pad_steps.specs.declared.answers.Refusal.TheVariants as refusals
 use Rattle.pad_steps.specs.declared.answers.Reply.TheVariants as replied
 use Rattle.pad_steps.specs.declared.steps.DiskWord.TheVariants as words
 use Rattle.pad_steps.specs.declared.steps.DiskWord.{DiskWord}
-use Rattle.std.specs.Prelude.{IfSome, List, None, Option, Result, Some, map, slice_get, take, true, ℕ, ◌≡◌}
+use Rattle.std.specs.Prelude.{IfSome, List, None, Option, Result, Some, slice_get, take, true, ℕ, ◌≡◌}
 
 -- the slots that were replaced, and the one in doubt after a fault or a cut; a fault stops the device
 abbrev pub after_replacing : Shared → List Change → DiskWord → Shared
@@ -33,14 +27,6 @@ after_replacing shared todo other = record shared { keys = changed todo shared.k
 abbrev pub stopped_by : DiskError → Shared → Shared
 stopped_by fault.Failed shared = record shared { device = Stopped }
 stopped_by fault.Off shared = shared
-
--- every pending request ends CONNECTIONLOST
-abbrev pub all_lost : List (RequestRow Command Reply) → List (RequestRow Command Reply)
-all_lost requests = ended_where (λ request. true) (replied.No refusals.ConnectionLost) requests
-
--- and each is told so, in order of ids
-abbrev pub losses_told : List (RequestRow Command Reply) → List Out
-losses_told requests = map (λ request. out.Ended request.session request.id (replied.No refusals.ConnectionLost)) (pending_where (λ request. true) requests)
 
 -- what a loading leaves, but for what ends where the power was cut
 abbrev pub after_loading : Shared → DiskWord → Shared

@@ -1,10 +1,11 @@
 -- What a step of the pad is.
-use Rattle.disk_core.specs.DiskStates.{DiskState}
+use Rattle.disk_core.specs.DiskStates.{DiskState, EachImage}
 use Rattle.flat_machine.specs.DiskSteps.{IsTied, StepOnDisk}
 use Rattle.flat_machine.specs.KeyLayout.{key_layout}
-use Rattle.flat_machine.specs.Machine.{next, release}
+use Rattle.flat_machine.specs.Machine.{Act, next, release, run}
 use Rattle.flat_machine.specs.Power.{word_fate}
 use Rattle.flat_machine.specs.State.{Flat}
+use Rattle.flat_machine.specs.StoreHistory.{Holds}
 use Rattle.flat_machine.specs.Twins.{Alike, AlikeAfter, TwinSteps}
 use Rattle.pad_machine.specs.Stands.{PadState, StandsFor, set_by, set_of}
 use Rattle.pad_machine.specs.declared.pad.Stepped.{Stepped}
@@ -12,7 +13,7 @@ use Rattle.pad_steps.specs.declared.answers.Out.{Out}
 use Rattle.pad_steps.specs.declared.steps.DiskWord.{DiskWord}
 use Rattle.pad_steps.specs.declared.steps.Step.{Step}
 use Rattle.pin_blocks.specs.PinRules.{PinRules}
-use Rattle.std.specs.Prelude.{List, ℕ, ◌++◌, ◌≡◌}
+use Rattle.std.specs.Prelude.{List, [], ℕ, ◌++◌, ◌∷◌, ◌≡◌}
 
 -- from this state, in a run of this seed, the step is the machine's: the pad stands for the machine's next state, says what the machine says, and answers the fate of a loading
 pub record IsMachineStep (pin_rules : PinRules) (new : PadState) (before after : List Out) (step : Step) (stepped : Stepped) (seed : List ℕ) (state : Flat) : Type 0 where
@@ -27,6 +28,11 @@ PadIsTied pad disk = IsTied pad.kept.shared pad.stored disk
 -- the step on the disk: its word fits, the disk did it, and what the disk has now is what the store's history allows
 abbrev pub PadStepOnDisk : PinRules → PadState → PadState → Step → DiskWord → DiskState → DiskState → Type 0
 PadStepOnDisk pin_rules old new step word s t = StepOnDisk key_layout (set_of pin_rules old.kept) old.kept.shared new.kept.shared step word s t
+
+-- the history of the store goes on: where a run came to this state, and each image of the disk held what the history of this run allows, each image of now holds what that of the run with this step allows
+abbrev pub HistoryGoesOn : PinRules → Step → DiskWord → List ℕ → Flat → DiskState → DiskState → Type 0
+HistoryGoesOn pin_rules step word seed state s t = (acts : List Act) (first : List ℕ) → run (set_by pin_rules seed) acts ≡ state
+    → EachImage s (Holds key_layout (set_by pin_rules seed) first acts) → EachImage t (Holds key_layout (set_by pin_rules seed) first (acts ++ record { step = step; word = word } ∷ []))
 
 -- a state that is alike takes a twin of the step and releases the same: then it says the same, and stays alike
 abbrev pub Unwinds : PinRules → Step → DiskWord → List ℕ → Flat → Type 0

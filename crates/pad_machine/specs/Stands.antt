@@ -11,7 +11,7 @@ use Rattle.flat_machine.specs.declared.types.Device.{Device}
 use Rattle.key_table.specs.Changes.{Change}
 use Rattle.key_table.specs.KeyStores.{KeyStore}
 use Rattle.pad_machine.specs.declared.running_entry.RunningEntry.{RunningEntry}
-use Rattle.pad_steps.specs.Today.{is_command_today}
+use Rattle.pad_steps.specs.Formed.{is_well_formed_command}
 use Rattle.pad_steps.specs.declared.answers.Reply.{Reply}
 use Rattle.pad_steps.specs.declared.commands.Command.{Command}
 use Rattle.pad_words.specs.declared.numbers.Session.{Session}
@@ -39,9 +39,9 @@ pub record PadState : Type 0 where
 abbrev pub StandsFor : PadState → List ℕ → Flat → Type 0
 StandsFor pad seed state = pad.kept ≡ kept_of seed state
 
--- a command that may wait: it is taken today, and Submit does not refuse it
+-- a command that may wait: it is well formed, and Submit does not refuse it
 abbrev pub is_admitted : PinRules → Command → Bool
-is_admitted pin_rules command = is_command_today command && passes_submit pin_rules command
+is_admitted pin_rules command = is_well_formed_command command && passes_submit pin_rules command
 
 -- every pending command may wait
 abbrev pub IsSound : PinRules → Shared → Type 0

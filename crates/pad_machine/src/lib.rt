@@ -3,6 +3,7 @@
 
 mod crypts;
 mod doubt;
+mod endings;
 mod fates;
 mod imports;
 mod keyless;

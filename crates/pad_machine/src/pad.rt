@@ -5,14 +5,15 @@ ghost use Rattle.flat_machine.specs.RequestFacts.{draws, work_left};
 ghost use Rattle.flat_machine.specs.State.{Flat, is_off, is_ready, opening};
 ghost use Rattle.pad_machine.specs.Does.{Undone};
 ghost use Rattle.pad_machine.specs.Memory.{places_for, takes_memory};
-ghost use Rattle.pad_machine.specs.Runs.{IsMachineStep, PadIsTied, PadStepOnDisk, Unwinds};
+ghost use Rattle.pad_machine.specs.Runs.{HistoryGoesOn, IsMachineStep, PadIsTied, PadStepOnDisk, Unwinds};
 ghost use Rattle.pad_machine.specs.Stands.{StandsFor};
-ghost use Rattle.pad_steps.specs.Today.{is_taken_today};
+ghost use Rattle.pad_steps.specs.Formed.{is_well_formed};
 
 use crate::keyless::{pressed_key, without_key};
 use crate::parts::Parts;
 use disk_core::PowerDisk;
 use flat_machine::laws::devices::few_words_are_drawn;
+use flat_machine::laws::disk_runs::store_history_goes_on;
 use flat_machine::laws::kept::{digits_fit_their_entry, kept_steps, pending_stay_sound};
 use flat_machine::laws::requests::due_steps_come_to_an_end;
 use flat_machine::laws::twins::unwinding;
@@ -66,7 +67,7 @@ impl<W: PinWork + Drop> Pad<W> {
         step: &Step,
         out: &mut Outs,
     ) -> Result<Stepped, NoMemory>
-        requires taken { IsTrue (is_taken_today step.now) }
+        requires formed { IsTrue (is_well_formed step.now) }
         requires ids { length self.old.kept.shared.requests < 2 ^ 32 - 2 }
 
         // The disk is on while the device is not off, and has the store's bytes while it is ready; and so it is after the step.
@@ -76,12 +77,16 @@ impl<W: PinWork + Drop> Pad<W> {
             IsMachineStep W.rules self.new out.old.items out.new.items step.now stepped seed state) }
         ensures on_disk { IfOk result (λ stepped.
             PadStepOnDisk W.rules self.old self.new step.now stepped.word (D.state disk.old) (D.state disk.new)) }
+        ensures history { IfOk result (λ stepped. (seed : List ℕ) (state : Flat) → StandsFor self.old seed state →
+            HistoryGoesOn W.rules step.now stepped.word seed state (D.state disk.old) (D.state disk.new)) }
         ensures unwinding { IfOk result (λ stepped. (seed : List ℕ) (state : Flat) → StandsFor self.old seed state →
             Unwinds W.rules step.now stepped.word seed state) }
         ensures err { OnErr result (Undone self.old self.new out.old.items out.new.items) }
         ensures disk_err { OnErr result (disk.new ≡ disk.old) }
 
-        // Memory is wanted by a Submit, by the Finish of CRYPT and of RESET, by Boot, and for places that are not spare.
+        // Memory is wanted by a Submit, by the Finish of CRYPT, of RESET and of a PIN command that is neither a block nor a
+        // check, by Boot, by Ask of names and of a reply, by a Tick whose clock 64 bits do not hold, and for places that are
+        // not spare.
         ensures memory { takes_memory self.old.kept.shared step.now ≡ false →
             places_for self.old.kept.shared step.now ≤ out.old.spare → IsOk result }
 
@@ -96,6 +101,7 @@ impl<W: PinWork + Drop> Pad<W> {
         digits_fit_their_entry();
         pending_stay_sound();
         few_words_are_drawn();
+        store_history_goes_on::<D>();
         let prepared = self.parts.prepare(without_key(step), out)?;
         Ok(self.parts.perform(disk, prepared, pressed_key(step), out))
     }
@@ -113,7 +119,7 @@ impl<W: PinWork + Drop> Pad<W> {
         ensures due { (seed : List ℕ) (state : Flat) →
             StandsFor self.now seed state → result ≡ next_work state.shared }
         ensures kept { result ≡ next_work self.now.kept.shared }
-        ensures taken { IfSome result (λ step. IsTrue (is_taken_today step)) }
+        ensures formed { IfSome result (λ step. IsTrue (is_well_formed step)) }
         ensures on { IfSome result (λ step. is_off self.now.kept.shared.device ≡ false) }
         ensures draws { IfSome result (λ step. draws step ≡ 0) }
     {

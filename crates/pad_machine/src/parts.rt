@@ -1,22 +1,21 @@
 // What the pad holds: what is the same in twins, and the digits.
 ghost use Rattle.std.specs.Prelude.{◌≡◌, ◌<◌, ◌≤◌, ◌+◌, ◌-◌, ◌^◌, [], IfOk, IsOk, IsSome, IsTrue, None, Some, false, length};
 ghost use Rattle.std.specs.Option.{option_map};
-ghost use Rattle.entry_core.specs.Presses.{FitEntry};
 ghost use Rattle.flat_machine.specs.DiskFacts.{IsKeptStore, KeepsStore};
-ghost use Rattle.flat_machine.specs.Kept.{FitRunning, kept_ends, kept_next, kept_press_in};
+ghost use Rattle.flat_machine.specs.Kept.{FitRunning, kept_next};
 ghost use Rattle.flat_machine.specs.Machine.{has_pin, next_work};
 ghost use Rattle.flat_machine.specs.Power.{word_fate};
 ghost use Rattle.flat_machine.specs.State.{opening, running_entry};
 ghost use Rattle.key_source.specs.declared.Key.{Key};
 ghost use Rattle.pad_machine.specs.Does.{Becomes, Does};
 ghost use Rattle.pad_machine.specs.Memory.{places_for, takes_memory};
-ghost use Rattle.pad_machine.specs.Prepares.{IsPlanned, IsPrepared, IsRunning, IsTakenToday, calls_of, deciding, effect_of, is_plain, places_of, pressed, said_of, switch_of, with_key};
+ghost use Rattle.pad_machine.specs.Prepares.{IsPlanned, IsPrepared, IsFormed, calls_of, deciding, effect_of, is_plain, places_of, pressed, said_of, switch_of, with_key};
 ghost use Rattle.pad_machine.specs.Stands.{DrawnFew, IsSound, StandsFor, kept_by, pad_state, running_of, set_by, shared_of, status_with};
-ghost use Rattle.pad_steps.specs.declared.answers.Answer.TheVariants.{Entered};
-ghost use Rattle.pad_steps.specs.declared.answers.Reply.TheVariants.{Ok as ReplyOk};
 ghost use Rattle.pad_steps.specs.declared.steps.DiskWord.TheVariants.{Quiet};
 ghost use Rattle.pad_steps.specs.declared.steps.DiskWord.{DiskWord};
 
+mod ending;
+mod entering;
 mod finishing;
 mod loading;
 
@@ -27,10 +26,9 @@ use crate::running_entry::RunningEntry;
 use crate::saying::say;
 use crate::shared_part::Shared;
 use disk_core::PowerDisk;
-use entry_core::Seen;
 use flat_machine::laws::devices::quiet_steps_leave_the_disk;
 use key_source::Key;
-use pad_steps::{Answer, Completion, DiskWord, Event, Out, Outs, Reply, Shown, Step, Told};
+use pad_steps::{DiskWord, Out, Outs, Reply, Step, Told};
 use pad_words::{Nibbles, NoMemory};
 use pin_blocks::PinWork;
 use pin_buffer::PinBuffer;
@@ -102,7 +100,7 @@ impl<W: PinWork + Drop> Parts<W> {
     /// What a step comes to. All that may want memory is done here, and no digit is seen. All is as before, but for places.
     pub fn prepare(&mut self, step: KeylessStep, out: &mut Outs) -> Result<Prepared, NoMemory>
         requires sound { IsSound W.rules (shared_of self.old.common) }
-        requires taken { IsTakenToday step }
+        requires taken { IsFormed step }
         requires ids { length self.old.common.requests < 2 ^ 32 - 2 }
         ensures kept { pad_state self.new ≡ pad_state self.old }
         ensures items { out.new.items ≡ out.old.items }
@@ -170,6 +168,16 @@ impl<W: PinWork + Drop> Parts<W> {
                 self.shared.open(session);
                 say(out, Out::Told(session, Told::Opened));
             }
+            Prepared::Close(session) => self.close(session, out),
+            Prepared::Lock(session) => {
+                let told = self.shared.line_up(session);
+                say(out, Out::Told(session, told));
+            }
+            Prepared::Unlock(session) => self.unlock(session, out),
+            Prepared::Cancel(session, floor, id, count) => {
+                self.cancel(session, floor, id, count, out);
+            }
+            Prepared::Tick(clock) => self.tick(clock, out),
             Prepared::Submit(session, limit, command) => {
                 let id = self.shared.submit(session, limit, command);
                 say(out, Out::Request(session, id));
@@ -192,55 +200,6 @@ impl<W: PinWork + Drop> Parts<W> {
             _ => {}
         }
     }
-
-    // A press at the running entry.
-    fn press(&mut self, current: RunningEntry, key: Key, out: &mut Outs)
-        requires room { 2 ≤ out.old.spare }
-        requires runs { IsRunning self.old.common current }
-        requires digits { FitEntry current.entry self.old.digits }
-        ensures store { self.new.common.store ≡ self.old.common.store }
-        ensures becomes { Becomes self.new out.old out.new (kept_press_in (set_by W.rules self.old.seed) (kept_by self.old) (Some (running_of current)) key) }
-    {
-        let seen = current.entry.seen(self.digits.items().len(), key);
-        current.entry.enter(&mut self.digits, key);
-        match seen {
-            Seen::Ignored => {}
-            Seen::Took(shown) => self
-                .shared
-                .send(current.owner.session, Event::Key(shown), out),
-            Seen::Ended(shown, completion) => self.end_entry(current, shown, completion, out),
-        }
-    }
-
-    // The running entry ends by a key: its digits are held, and its reply has their number.
-    fn end_entry(
-        &mut self,
-        current: RunningEntry,
-        shown: Shown,
-        completion: Completion,
-        out: &mut Outs,
-    )
-        requires room { 2 ≤ out.old.spare }
-        requires runs { IsRunning self.old.common current }
-        requires digits { FitEntry current.entry self.old.digits }
-        ensures store { self.new.common.store ≡ self.old.common.store }
-        ensures becomes { Becomes self.new out.old out.new (kept_ends (set_by W.rules self.old.seed) (kept_by self.old) (running_of current) shown completion self.old.digits) }
-    {
-        self.shared
-            .send(current.owner.session, Event::Key(shown), out);
-        let count = self.digits.items().len() as u8;
-        self.held.set(&self.digits);
-        self.digits.clear();
-        let (reply, told) = (entered(count, completion), entered(count, completion));
-        self.shared.end(current.owner, reply, told, out);
-    }
-}
-
-// The reply of a PIN entry: how many digits were entered, and how it ended.
-fn entered(count: u8, completion: Completion) -> Reply
-    ensures { result ≡ ReplyOk (Entered count completion) }
-{
-    Reply::Ok(Answer::Entered(count, completion))
 }
 
 // Nothing was asked of the disk.

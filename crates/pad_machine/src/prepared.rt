@@ -15,10 +15,20 @@ pub enum Prepared {
     Say(Out),
     /// The session is opened.
     Open(Session),
+    /// The session is closed.
+    Close(Session),
+    /// The session stands in the line for the lock.
+    Lock(Session),
+    /// The session, which holds the lock, lets go of it.
+    Unlock(Session),
     /// The session's request waits, with this limit in ticks and this command.
     Submit(Session, u32, Command),
     /// The session hears these classes.
     Listen(Session, Classes),
+    /// The requests that the session, of this floor, names by this id end. There are so many.
+    Cancel(Session, u32, u32, u16),
+    /// The clock shows so many ticks, and the requests that are due then end.
+    Tick(u64),
     /// The request with this id comes into work. It is no entry.
     Begin(u32),
     /// The entry is refused as it is taken.

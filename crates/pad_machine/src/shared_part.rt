@@ -7,20 +7,20 @@ ghost use Rattle.flat_machine.specs.EntrySteps.{first_of, next_begin};
 ghost use Rattle.flat_machine.specs.FinishSteps.{next_finish};
 ghost use Rattle.flat_machine.specs.Machine.{next_boot, next_off, next_work};
 ghost use Rattle.flat_machine.specs.RequestSteps.{next_submit};
-ghost use Rattle.flat_machine.specs.SessionSteps.{next_listen, next_open};
 ghost use Rattle.flat_machine.specs.State.{device_refusal, opening, owner_of, running_entry};
-ghost use Rattle.flat_machine.specs.WorkFacts.{is_crypt};
 ghost use Rattle.key_source.specs.declared.Key.{Key};
-ghost use Rattle.pad_machine.specs.Memory.{pending_in_all, places_for, takes_memory};
-ghost use Rattle.pad_machine.specs.Prepares.{AlwaysComesTo, ComesTo, IsCopy, IsInWork, IsNext, IsPlanned, IsReady, IsStep, IsTakenToday, IsUnready, Prepares, deciding, next_owner, ready_work, session_refusal, told_of, with_key};
+ghost use Rattle.pad_machine.specs.Memory.{decides_list, pending_in_all, places_for, takes_memory};
+ghost use Rattle.pad_machine.specs.Prepares.{AlwaysComesTo, ComesTo, IsCopy, IsInWork, IsNext, IsPartSized, IsPlanned, IsReady, IsStep, IsFormed, IsUnready, Prepares, deciding, next_owner, ready_work, session_refusal, told_of, with_key};
 ghost use Rattle.pad_machine.specs.Stands.{IsSound, is_admitted, running_of, set_by, shared_of};
-ghost use Rattle.pad_steps.specs.Today.{is_command_today};
-ghost use Rattle.pad_steps.specs.declared.commands.EntryKind.TheVariants.{Pin as PinKind};
-ghost use Rattle.pad_steps.specs.declared.steps.Step.TheVariants.{Begin as BeginStep, Boot as BootStep, Finish as FinishStep, Listen as ListenStep, Off as OffStep, Open as OpenStep, Press, Submit as SubmitStep};
+ghost use Rattle.pad_steps.specs.Formed.{is_well_formed_command};
+ghost use Rattle.pad_steps.specs.declared.steps.Step.TheVariants.{Begin as BeginStep, Boot as BootStep, Finish as FinishStep, Off as OffStep, Press, Submit as SubmitStep};
 ghost use Rattle.request_queue.specs.Requests.{pending_by_id, request_command, request_in_work};
 
+mod asking;
 mod changing;
+mod ending;
 mod powering;
+mod sessions;
 mod status;
 
 use crate::crypts::crypt_work;
@@ -39,7 +39,7 @@ use flat_machine::laws::works::works_of_commands;
 use flat_machine::types::{Device, Owner, Work};
 use key_attributes::KeyRow;
 use key_table::{StoredKeys, copy_rows};
-use pad_steps::{Answer, Classes, Command, Out, Outs, Refusal, Reply, Step, Told};
+use pad_steps::{Answer, Command, Out, Outs, Refusal, Reply, Step};
 use pad_words::{NoMemory, Session};
 use pin_blocks::PinWork;
 use request_queue::Queue;
@@ -122,12 +122,12 @@ impl<W: PinWork + Drop> Shared<W> {
     }
 
     /// The running entry.
-    #[tactic(auto, using(crate::proofs::AdmittedLemmas::admitted_size, crate::proofs::AdmittedLemmas::admitted_pin))]
+    #[tactic(auto, using(crate::proofs::AdmittedLemmas::admitted_size, crate::proofs::AdmittedLemmas::admitted_part))]
     pub fn running_entry(&self) -> Option<RunningEntry>
         requires { IsSound W.rules (shared_of self.now) }
         ensures entry { option_map running_of result ≡ running_entry (shared_of self.now) }
         ensures at { IfSome result (λ current. IsInWork self.now.requests current.owner.id) }
-        ensures pin { IfSome result (λ current. current.entry.kind ≡ PinKind) }
+        ensures part { IfSome result (λ current. IsPartSized current.entry) }
     {
         let owner = self.in_work()?;
         let entry = Entry::of(self.command_of(owner.id)?)?;
@@ -160,7 +160,7 @@ impl<W: PinWork + Drop> Shared<W> {
         out: &mut Outs,
     ) -> Result<Prepared, NoMemory>
         requires sound { IsSound W.rules (shared_of self.old) }
-        requires taken { IsTakenToday step }
+        requires taken { IsFormed step }
         requires ids { length self.old.requests < 2 ^ 32 - 2 }
         requires few { held ≤ 16 }
         ensures ready { IfOk result (λ prepared. IsReady W.rules self.old self.new held out.old out.new prepared) }
@@ -174,13 +174,19 @@ impl<W: PinWork + Drop> Shared<W> {
     {
         match step {
             KeylessStep::Open(session) => self.prepare_open(session, out),
+            KeylessStep::Close(session) => self.prepare_close(session, out),
+            KeylessStep::Lock(session) => self.prepare_lock(session, out),
+            KeylessStep::Unlock(session) => self.prepare_unlock(session, out),
             KeylessStep::Listen(session, classes) => self.prepare_listen(session, classes, out),
             KeylessStep::Submit(session, limit, command) => {
                 self.prepare_submit(session, limit, command, out)
             }
+            KeylessStep::Cancel(session, id) => self.prepare_cancel(session, id, out),
             KeylessStep::Begin => self.prepare_begin(out),
             KeylessStep::Finish => self.prepare_finish(held, out),
             KeylessStep::Press => self.prepare_press(out),
+            KeylessStep::Tick(ticks) => self.prepare_tick(ticks, out),
+            KeylessStep::Ask(session, question) => self.prepare_ask(held, session, question, out),
             KeylessStep::Off => self.prepare_off(out),
             KeylessStep::Boot => self.prepare_boot(out),
         }
@@ -252,43 +258,6 @@ impl<W: PinWork + Drop> Shared<W> {
         Ok(Prepared::Boot(self.copy_of_rows()?))
     }
 
-    // What Open comes to.
-    fn prepare_open(&self, session: Session, out: &mut Outs) -> Result<Prepared, NoMemory>
-        requires { length self.now.requests < 2 ^ 32 - 2 }
-        ensures ready { Prepares W.rules self.now self.now out.old out.new result }
-        ensures does { IfOk result (AlwaysComesTo W.rules self.now (λ shared word. next_open shared session)) }
-        ensures planned { IfOk result (λ prepared.
-            IsPlanned (deciding W.rules) (shared_of self.now) prepared (OpenStep session)) }
-        ensures memory { 1 ≤ out.old.spare → IsOk result }
-    {
-        out.reserve(1)?;
-        if self.sessions.is_open(session) {
-            return Ok(Prepared::Say(Out::Told(session, Told::No(Refusal::AlreadyOpen))));
-        }
-        Ok(Prepared::Open(session))
-    }
-
-    // What Listen comes to.
-    fn prepare_listen(
-        &self,
-        session: Session,
-        classes: Classes,
-        out: &mut Outs,
-    ) -> Result<Prepared, NoMemory>
-        ensures ready { Prepares W.rules self.now self.now out.old out.new result }
-        ensures does { IfOk result (AlwaysComesTo W.rules self.now (λ shared word. next_listen shared session classes)) }
-        ensures planned { IfOk result (λ prepared.
-            IsPlanned (deciding W.rules) (shared_of self.now) prepared (ListenStep session classes)) }
-        ensures memory { 1 ≤ out.old.spare → IsOk result }
-    {
-        out.reserve(1)?;
-        if self.sessions.is_open(session) {
-            Ok(Prepared::Listen(session, classes))
-        } else {
-            Ok(Prepared::Say(Out::Told(session, Told::No(Refusal::NoSession))))
-        }
-    }
-
     // Why a Submit of the session is refused, before its command is looked at.
     fn session_refusal(&self, session: Session) -> Option<Refusal>
         ensures { result ≡ session_refusal (shared_of self.now) session }
@@ -316,7 +285,7 @@ impl<W: PinWork + Drop> Shared<W> {
         command: &Command,
         out: &mut Outs,
     ) -> Result<Prepared, NoMemory>
-        requires taken { IsTrue (is_command_today command.now) }
+        requires taken { IsTrue (is_well_formed_command command.now) }
         requires ids { length self.old.requests < 2 ^ 32 - 2 }
         ensures ready { Prepares W.rules self.old self.new out.old out.new result }
         ensures does { IfOk result (AlwaysComesTo W.rules self.new (λ shared word.
@@ -433,7 +402,7 @@ impl<W: PinWork + Drop> Shared<W> {
         requires few { held ≤ 16 }
         ensures work { IfOk result (λ work.
             work ≡ work_of (deciding W.rules) (shared_of self.now) held command.now) }
-        ensures memory { is_crypt command.now ≡ false → IsOk result }
+        ensures memory { decides_list command.now ≡ false → IsOk result }
     {
         match command {
             // An entry ends by a key.
@@ -456,7 +425,7 @@ impl<W: PinWork + Drop> Shared<W> {
         requires device { device_refusal self.now.device ≡ None }
         ensures work { IfOk result (λ work.
             work ≡ ready_work (deciding W.rules) (shared_of self.now) held command.now) }
-        ensures memory { is_crypt command.now ≡ false → IsOk result }
+        ensures memory { decides_list command.now ≡ false → IsOk result }
     {
         match command {
             Command::MaintainPin(on) => Ok(Work::Maintain(*on)),

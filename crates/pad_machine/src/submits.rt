@@ -1,10 +1,10 @@
 // Why a command is refused as it is submitted.
 ghost use Rattle.std.specs.Prelude.{◌≡◌, IsTrue, Some, if◌then◌else◌};
-ghost use Rattle.flat_machine.specs.RequestSteps.{command_refusal, crypt_invalid, import_invalid, invalid_if, is_cfb};
+ghost use Rattle.flat_machine.specs.RequestSteps.{command_refusal, crypt_invalid, import_invalid, invalid_if, is_cfb, is_part_count};
 ghost use Rattle.flat_machine.specs.PinCommands.{admit_refusal};
 ghost use Rattle.pad_steps.specs.Formed.{is_pin_request};
 ghost use Rattle.std.specs.Option.{option_map};
-ghost use Rattle.pad_steps.specs.Today.{is_command_today};
+ghost use Rattle.pad_steps.specs.Formed.{is_well_formed_command};
 ghost use Rattle.pad_steps.specs.declared.answers.Refusal.TheVariants.{ModeNotSupported};
 
 use key_attributes::Uses;
@@ -16,20 +16,36 @@ use pin_blocks::{AdmitFault, PinWork};
 
 /// Why a command is refused as it is submitted, for what it asks.
 pub fn command_refusal<W: PinWork>(work: &W, command: &Command) -> Option<Refusal>
-    requires { IsTrue (is_command_today command.now) }
+    requires { IsTrue (is_well_formed_command command.now) }
     ensures { result ≡ command_refusal W.rules command.now }
 {
     match command {
+        Command::GetPin(rules) | Command::GetData(rules) => invalid_if(rules.max > 16),
+        Command::SecureKeyEntry(rules) => invalid_if(!is_part_count(rules.count)),
         Command::Pin(request) => pin_refusal(work, request),
         Command::Crypt(request) => crypt_refusal(request),
-        Command::ImportKey(request) if is_invalid(request) => Some(Refusal::InvalidData),
+        Command::ImportKey(request) => invalid_if(is_invalid(request)),
         Command::RsaImport => Some(Refusal::UnsuppCommand),
-        // What a line asks of these is never refused so.
-        Command::GetPin(_) | Command::ImportKey(_) | Command::DeleteKey(_) => None,
-        Command::Init | Command::Reset => None,
-        // No line asks for another command.
-        _ => unreachable!(),
+        // What is asked of these is never refused so.
+        Command::MaintainPin(_) | Command::DeleteKey(_) | Command::Init | Command::Reset => None,
     }
+}
+
+// INVALIDDATA where the test holds.
+fn invalid_if(test: bool) -> Option<Refusal>
+    ensures { result ≡ invalid_if test }
+{
+    if test {
+        return Some(Refusal::InvalidData);
+    }
+    None
+}
+
+// Whether a key part may have so many digits: those of a key of 8, 16 or 24 bytes.
+fn is_part_count(count: u8) -> bool
+    ensures { result ≡ is_part_count count }
+{
+    matches!(count, 16 | 32 | 48)
 }
 
 // Why the PIN work does not admit a request.

@@ -1,21 +1,25 @@
 // What is changed in what is the same in twins. No call takes memory.
-ghost use Rattle.std.specs.Prelude.{◌≡◌, ◌<◌, ◌≤◌, ◌+◌, ◌++◌, ◌∷◌, [], IsSome, Some, false, length};
+ghost use Rattle.std.specs.Prelude.{◌≡◌, ◌<◌, ◌≤◌, ◌+◌, ◌++◌, ◌∷◌, [], IsSome, IsTrue, Some, false, length};
 ghost use Rattle.device_lock.specs.LockLine.{holder_of};
+ghost use Rattle.flat_machine.specs.EntrySteps.{part_check};
 ghost use Rattle.flat_machine.specs.Sessions.{execute_event};
+ghost use Rattle.flat_machine.specs.Settings.{triple_des};
 ghost use Rattle.flat_machine.specs.State.{accuses};
 ghost use Rattle.pad_machine.specs.Prepares.{IsInWork, IsNext, KeepsRequests, MaySubmit};
 ghost use Rattle.pad_machine.specs.Stands.{DrawnFew, shared_of};
 ghost use Rattle.pad_steps.specs.declared.answers.Out.TheVariants.{Ended as OutEnded};
 ghost use Rattle.pad_steps.specs.declared.answers.Reply.TheVariants.{No as ReplyNo};
 ghost use Rattle.request_queue.specs.Requests.{begun, finished, refused_at_begin, submitted};
+ghost use Rattle.secure_entry.specs.PartBuffers.{is_part_length};
 ghost use Rattle.session_book.specs.Rising.{opened};
 ghost use Rattle.session_book.specs.Sessions.{is_open, with_classes, with_session};
 
 use super::Shared;
 use crate::saying::{announce, say, send};
+use check_values::check_value;
 use flat_machine::types::Owner;
-use pad_steps::{Classes, Command, Event, Out, Outs, Refusal, Reply};
-use pad_words::{KeyName, Session};
+use pad_steps::{Classes, Command, Event, Out, Outs, Refusal, Reply, Verify};
+use pad_words::{KeyName, Nibbles, Session};
 use pin_blocks::PinWork;
 use request_queue::laws::{in_work_by_id, next_by_id};
 
@@ -89,6 +93,23 @@ impl<W: PinWork + Drop> Shared<W> {
         ensures queue { KeepsRequests self.old self.new }
     {
         self.part.clear();
+    }
+
+    /// The part buffer holds these nibbles.
+    pub fn set_part(&mut self, nibbles: &Nibbles)
+        requires { IsTrue (is_part_length (length nibbles.now)) }
+        ensures state { shared_of self.new ≡ record (shared_of self.old) { part = nibbles.now } }
+        ensures store { self.new.store ≡ self.old.store }
+        ensures queue { KeepsRequests self.old self.new }
+    {
+        self.part.set(nibbles);
+    }
+
+    /// The check value of the key part in the buffer. None where the buffer is empty.
+    pub fn part_check(&self, mode: Verify) -> Option<[u8; 3]>
+        ensures { result ≡ part_check triple_des mode self.now.part }
+    {
+        check_value(&self.part.value()?, mode)
     }
 
     /// Whether a used PIN is maintained.

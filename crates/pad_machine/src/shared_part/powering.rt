@@ -11,7 +11,7 @@ ghost use Rattle.nv_store.specs.Stores.{IsInStep};
 ghost use Rattle.key_table.specs.Tables.{is_table};
 ghost use Rattle.pad_machine.specs.Memory.{pending_in_all};
 ghost use Rattle.pad_machine.specs.Prepares.{IsCopy, KeepsRequests};
-ghost use Rattle.pad_machine.specs.Replacing.{LoadedBy, MadeChanges, after_loading, after_replacing, all_lost, losses_told, stopped_by};
+ghost use Rattle.pad_machine.specs.Replacing.{LoadedBy, MadeChanges, after_loading, after_replacing, stopped_by};
 ghost use Rattle.pad_machine.specs.Stands.{shared_of};
 ghost use Rattle.pad_steps.specs.declared.answers.Event.TheVariants.{Initialized};
 ghost use Rattle.pad_steps.specs.declared.steps.DiskWord.TheVariants.{Done, Quiet};
@@ -19,18 +19,17 @@ ghost use Rattle.request_queue.specs.Requests.{request_in_work};
 
 use super::Shared;
 use crate::doubt::Doubt;
+use crate::endings::{Ending, end_requests};
 use crate::fates::{doubt_carried_out, fault_word};
 use crate::pad::Stepped;
-use crate::saying::{announce, say};
+use crate::saying::announce;
 use disk_core::{Disk, DiskError};
 use flat_machine::types::Device;
 use key_attributes::KeyRow;
 use key_table::laws::names_stand_in_slots;
 use key_table::{LoadFault, PutFault, copy_rows, same_rows};
-use pad_steps::{Command, DiskWord, Event, Fate, Out, Outs, Refusal, Reply, Rows};
+use pad_steps::{DiskWord, Event, Fate, Outs, Refusal, Rows};
 use pin_blocks::PinWork;
-use request_queue::Queue;
-use request_queue::laws::one_after_another;
 
 impl<W: PinWork + Drop> Shared<W> {
     /// The device.
@@ -190,7 +189,12 @@ impl<W: PinWork + Drop> Shared<W> {
         self.device = Device::Off;
         self.part.clear();
         self.is_maintained = false;
-        lose_all(&mut self.requests, out);
+        end_requests(
+            &mut self.requests,
+            &Ending::All,
+            &Refusal::ConnectionLost,
+            out,
+        );
     }
 
     /// Service listeners hear that all keys are gone.
@@ -219,27 +223,5 @@ fn first_doubt(rows: &[(u8, KeyRow)]) -> Option<Doubt>
     match rows.first() {
         Some(row) => Some(Doubt::of(row.0, None)),
         None => None,
-    }
-}
-
-// Every pending request ends CONNECTIONLOST, in order of ids.
-fn lose_all(requests: &mut Queue<Command, Reply>, out: &mut Outs)
-    requires room { pending_in_all requests.old.rows ≤ out.old.spare }
-    ensures requests { requests.new.rows ≡ all_lost requests.old.rows }
-    ensures items { out.new.items ≡ out.old.items ++ losses_told requests.old.rows }
-{
-    one_after_another::<Command, Reply>();
-    while let Some(id) = requests.first_pending(None) {
-        let _last = requests.last_id();
-        match requests.owner(id) {
-            Some(session) => {
-                requests.finish(id, Reply::No(Refusal::ConnectionLost));
-                say(
-                    out,
-                    Out::Ended(session, id, Reply::No(Refusal::ConnectionLost)),
-                );
-            }
-            None => unreachable!(),
-        }
     }
 }

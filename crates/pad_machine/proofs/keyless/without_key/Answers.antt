@@ -22,3 +22,21 @@ returns-in-Off-clause-step c = (Enter, search rules)
 
 pub returns-in-Boot-clause-step : goal.returns-in-Boot-clause-step
 returns-in-Boot-clause-step c = (Enter, search rules)
+
+pub returns-in-Close-clause-step : goal.returns-in-Close-clause-step
+returns-in-Close-clause-step c = (Enter, search rules)
+
+pub returns-in-Lock-clause-step : goal.returns-in-Lock-clause-step
+returns-in-Lock-clause-step c = (Enter, search rules)
+
+pub returns-in-Unlock-clause-step : goal.returns-in-Unlock-clause-step
+returns-in-Unlock-clause-step c = (Enter, search rules)
+
+pub returns-in-Cancel-clause-step : goal.returns-in-Cancel-clause-step
+returns-in-Cancel-clause-step c = (Enter, search rules)
+
+pub returns-in-Tick-clause-step : goal.returns-in-Tick-clause-step
+returns-in-Tick-clause-step c = (Enter, search rules)
+
+pub returns-in-Ask-clause-step : goal.returns-in-Ask-clause-step
+returns-in-Ask-clause-step c = (Enter, search rules)

@@ -1,9 +1,11 @@
 use Rattle.std.proofs.Common.{ap, subst, sym, ◌∙◌}
 use Rattle.std.specs.Prelude.{length, ◌*◌, ◌++◌, ◌+◌, ◌<◌, ◌≤◌}
 use Rattle.flat_machine.specs.Kept.{FitRunning, Kept, kept_next}
+use Rattle.flat_machine.specs.KeyLayout.{key_layout}
+use Rattle.flat_machine.specs.Machine.{next}
 use Rattle.flat_machine.specs.Power.{word_fate}
 use Rattle.flat_machine.specs.RequestFacts.{draws, work_left}
-use Rattle.pad_machine.proofs.StepLemmas.{kept_store, step-becomes, step-on_disk, step-planned, submits-admitted}
+use Rattle.pad_machine.proofs.StepLemmas.{kept_store, step-becomes, step-of_state, step-on_disk, step-planned, submits-admitted}
 use Rattle.pad_machine.specs.Stands.{IsPadState, IsSound, PadState, is_admitted, pad_state, set_by, set_of}
 use Rattle.request_queue.specs.Requests.{gone_count}
 use Rattle.pad_machine.proofs.pad.Pad.step.Goals as goal
@@ -28,7 +30,7 @@ invariant_of-self-2 g c =
     let holds = subst (IsPadState g.W.PinWork.rules) c.self.view_is c.self.invariant in
     record {
       digits = subst FitRunning (sym becomes.state) (c.digits_fit_their_entry.ensures set old c.args.step.now word holds.digits);
-      sound = subst (λ (k : Kept). IsSound g.W.PinWork.rules k.shared) (sym becomes.state) (c.pending_stay_sound.ensures (is_admitted g.W.PinWork.rules) set old c.args.step.now word (submits-admitted g.W.PinWork.rules c.args.step.now c.requires.taken) holds.sound);
+      sound = subst (λ (k : Kept). IsSound g.W.PinWork.rules k.shared) (sym becomes.state) (c.pending_stay_sound.ensures (is_admitted g.W.PinWork.rules) set old c.args.step.now word (submits-admitted g.W.PinWork.rules c.args.step.now c.requires.formed) holds.sound);
       ready = c.perform.ensures.device.kept.ready;
       few = subst (λ (k : Kept). k.shared.drawn ≤ 255 * gone_count k.shared.requests) (sym becomes.state) (c.few_words_are_drawn.ensures set old c.args.step.now word g.W.PinWork.few_words holds.few);
     }
@@ -59,6 +61,15 @@ returns-clause-on_disk g c = step-on_disk g.W.PinWork.rules c.args.self.now c.pr
     (c.in_ok-prepared.ensures.kept ∙ c.self.view_is)
     (step-planned g.W.PinWork.rules c.prepare.new.self c.in_ok-prepared.prepared c.args.step.now c.without_key.result c.without_key.ensures.step c.in_ok-prepared.ensures.planned)
     c.perform.ensures.device
+
+pub returns-clause-history : goal.returns-clause-history
+returns-clause-history g c = λ seed state stands acts first ran holds.
+    let set = set_by g.W.PinWork.rules seed in
+    let after = (next set state c.args.step.now c.perform.result.word).state in
+    c.store_history_goes_on.ensures.step key_layout set state acts first (record { step = c.args.step.now; word = c.perform.result.word }) c.args.disk.now c.perform.new.disk ran
+    (step-of_state g.W.PinWork.rules seed state after c.args.self.now (pad_state c.perform.new.self) c.args.step.now c.perform.result.word (g.D.Disk.state c.args.disk.now) (g.D.Disk.state c.perform.new.disk)
+    stands (returns-clause-machine g c seed state stands).stands (returns-clause-on_disk g c))
+    holds
 
 pub returns-clause-unwinding : goal.returns-clause-unwinding
 returns-clause-unwinding g c = λ seed state stands other twin alike twins same. c.unwinding.ensures (set_by g.W.PinWork.rules seed) state other c.args.step.now twin c.perform.result.word alike twins same

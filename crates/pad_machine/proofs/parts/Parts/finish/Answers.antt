@@ -1,4 +1,4 @@
-use Rattle.std.proofs.Common.{ap, refl, rules, subst, sym, ◌∙◌, ◌∷◌, [], Bool, true, ◌≡◌}
+use Rattle.std.proofs.Common.{ap, refl, rules, subst, sym, ◌∙◌, ◌∷◌, [], true, ◌≡◌}
 use Rattle.flat_machine.specs.DiskFacts.{KeepsStore, stays}
 use Rattle.flat_machine.specs.DiskSteps.{is_replacing}
 use Rattle.flat_machine.specs.FinishSteps.{performs, plan_of}

@@ -1,11 +1,10 @@
-use Rattle.std.proofs.Common.{ap, refl, rules, subst, sym, ◌∙◌, false, true, ◌≡◌}
+use Rattle.std.proofs.Common.{ap, refl, rules, subst, sym, false, true, ◌≡◌}
 use Rattle.flat_machine.specs.DiskFacts.{KeepsStore}
 use Rattle.flat_machine.specs.Kept.{Kept}
 use Rattle.pad_machine.proofs.DeviceLemmas.{plain_keeps, press_keeps}
 use Rattle.pad_machine.specs.Prepares.{IsPrepared, calls_of, is_plain, switch_of}
 use Rattle.pad_machine.specs.Stands.{kept_by, set_by, shared_of}
 use Rattle.pad_machine.specs.declared.prepared.Prepared.{Prepared}
-use Rattle.pad_steps.specs.declared.steps.DiskWord.{DiskWord}
 use Rattle.pad_steps.specs.declared.steps.Step.TheVariants.{Press}
 use Rattle.std.specs.Prelude.{length}
 use Rattle.pad_machine.proofs.parts.Parts.perform.Goals as goal
