@@ -1,22 +1,13 @@
 //! Replays a script of the pad and prints its transcript.
 #![tactic(auto)]
 
-mod command_line;
-mod cutting;
-mod reading;
-mod running;
-#[cfg(test)]
-mod tests;
-mod top;
-
-use crate::command_line::store_path;
-use crate::top::run_pinpad;
 use disk_core::{ArmDisk, Counted, FileDisk, MemDisk, OpenFault, StdSink, StdSource};
+use pad_replay::{run_pinpad, store_path};
 use std::process::ExitCode;
 use std::{env, io};
 
 /// What is printed on standard error where the words are no form.
-const USAGE: &str = "usage: pinpad_cli replay [store PATH]";
+const USAGE: &str = "usage: pinpad_cli replay [store PATH] [seed HEX]";
 
 /// The words of the command line without the program's name. A word that is no text is of no form.
 fn command_words(rt: &HostRuntime) -> io::Result<Vec<String>> {
