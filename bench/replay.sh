@@ -1,6 +1,7 @@
 #!/usr/bin/env bash
 # Times the program on large scripts, each at a tenth and at the whole of the greatest length, 1,048,576 bytes: one
-# long entry, many short ones, and as many lines as there can be. The transcript goes to a file.
+# long entry, many short ones, as many lines as there can be, and 65,536 lines of sixteen sessions that submit, lock,
+# cancel and let time go by. The transcript goes to a file.
 # The program is the first argument, or the one that ./replay builds.
 set -euo pipefail
 cd "$(dirname "$0")/.."
@@ -42,6 +43,24 @@ short_lines() {
     awk -v lines=$(($1 / 5)) 'BEGIN { for (n = 0; n < lines; n++) print "auto" }'
 }
 
+# Sixteen sessions, in turn: a request is canceled while the session holds the lock, and another comes into work or times out.
+sessions() {
+    awk -v lines=$(($1 / 16)) 'BEGIN {
+        print "boot"
+        for (s = 1; s <= 16; s++) print "open " s
+        for (n = 0; n < lines - 17; n++) {
+            s = int(n / 7) % 16 + 1
+            if (n % 7 == 0) print "submit " s " 2 maintain on"
+            if (n % 7 == 1) print "lock " s
+            if (n % 7 == 2) print "cancel " s " 0"
+            if (n % 7 == 3) print "submit " s " 2 reset"
+            if (n % 7 == 4) print "unlock " s
+            if (n % 7 == 5) print "tick 1"
+            if (n % 7 == 6) print "begin"
+        }
+    }'
+}
+
 # Runs the program five times on a script, and prints the least seconds and the peak of memory in KB, which is never
 # less than that of the process here that starts it.
 timed() {
@@ -66,8 +85,9 @@ print(f"{min(seconds):.3f}", max(peak))
 PYTHON
 }
 
-for kind in long_entry short_entries short_lines; do
+for kind in long_entry short_entries short_lines sessions; do
     taken=()
+    each=()
     for bytes in $((longest / 10)) $longest; do
         "$kind" "$bytes" >"$work/script"
         measured=$(timed "$work/script")
@@ -75,7 +95,8 @@ for kind in long_entry short_entries short_lines; do
         printf '%-14s %8d bytes %6d lines %8s s %8d KB\n' "$kind" "$(wc -c <"$work/script")" \
             "$(wc -l <"$work/script")" "$seconds" "$peak"
         taken+=("$seconds")
+        each+=("$(awk -v seconds="$seconds" -v lines="$(wc -l <"$work/script")" 'BEGIN { printf "%.2f", 1e6 * seconds / lines }')")
     done
-    awk -v kind=$kind -v small="${taken[0]}" -v large="${taken[1]}" \
-        'BEGIN { printf "%-14s the large one takes %.1f times as long\n", kind, large / small }'
+    awk -v kind=$kind -v small="${taken[0]}" -v large="${taken[1]}" -v one="${each[0]}" -v other="${each[1]}" \
+        'BEGIN { printf "%-14s the large one takes %.1f times as long, %s and %s microseconds a line\n", kind, large / small, one, other }'
 done
