@@ -9,3 +9,4 @@ pub mod PendingLemmas
 pub mod PlanLemmas
 pub mod ResetLemmas
 pub mod StepLemmas
+pub mod TwiceLemmas

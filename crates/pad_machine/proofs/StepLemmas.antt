@@ -30,7 +30,7 @@ use Rattle.std.specs.Prelude.{Bool, IsTrue, List, None, Option, Some, false, if�
 
 module _ (pin_rules : PinRules) where
   -- what was prepared comes to the machine's step on what was kept
-  effect-is : (old : Kept) (mid : Whole) (prepared : Prepared) (taken : Step) (key : Option Key) (word : DiskWord) (keyless : KeylessStep) (is : (k : Key) × (taken ≡ with_key keyless k))
+  pub effect-is : (old : Kept) (mid : Whole) (prepared : Prepared) (taken : Step) (key : Option Key) (word : DiskWord) (keyless : KeylessStep) (is : (k : Key) × (taken ≡ with_key keyless k))
       → ((k : Key) (w : DiskWord) → effect_of pin_rules (pressed (with_key keyless k)) mid prepared w ≡ kept_next (set_by pin_rules mid.seed) (kept_by mid) (with_key keyless k) w)
       → key ≡ pressed taken → kept_by mid ≡ old → effect_of pin_rules key mid prepared word ≡ kept_next (set_of pin_rules old) old taken word
   effect-is old mid prepared taken key word keyless is does of kept =

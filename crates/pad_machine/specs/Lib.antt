@@ -5,3 +5,4 @@ pub mod Prepares
 pub mod Replacing
 pub mod Runs
 pub mod Stands
+pub mod Twice

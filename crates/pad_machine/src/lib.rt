@@ -1,6 +1,7 @@
 //! The machine: what it keeps, and its step.
 #![tactic(auto)]
 
+mod copies;
 mod crypts;
 mod doubt;
 mod endings;
@@ -16,5 +17,7 @@ mod running_entry;
 mod saying;
 mod shared_part;
 mod submits;
+#[cfg(test)]
+mod tests;
 
 pub use pad::{Pad, Stepped};

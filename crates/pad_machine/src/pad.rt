@@ -5,9 +5,11 @@ ghost use Rattle.flat_machine.specs.RequestFacts.{draws, work_left};
 ghost use Rattle.flat_machine.specs.State.{Flat, is_off, is_ready, opening};
 ghost use Rattle.pad_machine.specs.Does.{Undone};
 ghost use Rattle.pad_machine.specs.Memory.{places_for, takes_memory};
-ghost use Rattle.pad_machine.specs.Runs.{HistoryGoesOn, IsMachineStep, PadIsTied, PadStepOnDisk, Unwinds};
+ghost use Rattle.pad_machine.specs.Runs.{HistoryGoesOn, IsKeptStep, IsMachineStep, IsPadStep, PadIsTied, PadStepOnDisk, Unwinds};
 ghost use Rattle.pad_machine.specs.Stands.{StandsFor};
 ghost use Rattle.pad_steps.specs.Formed.{is_well_formed};
+
+mod twice;
 
 use crate::keyless::{pressed_key, without_key};
 use crate::parts::Parts;
@@ -94,6 +96,28 @@ impl<W: PinWork + Drop> Pad<W> {
         ensures less { OnOk result (is_off self.old.kept.shared.device ≡ false → next_work self.old.kept.shared ≡ Some step.now →
             work_left self.new.kept.shared.requests < work_left self.old.kept.shared.requests) }
         ensures ids { OnOk result (length self.new.kept.shared.requests ≤ length self.old.kept.shared.requests + draws step.now) }
+    {
+        self.take_step(disk, step, out)
+    }
+
+    // Takes one step, as `step` does, and tells of what is kept too.
+    fn take_step<D: PowerDisk>(
+        &mut self,
+        disk: &mut D,
+        step: &Step,
+        out: &mut Outs,
+    ) -> Result<Stepped, NoMemory>
+        requires formed { IsTrue (is_well_formed step.now) }
+        requires ids { length self.old.kept.shared.requests < 2 ^ 32 - 2 }
+        requires tied { PadIsTied self.old (D.state disk.old) }
+        ensures step { IfOk result (λ stepped. IsPadStep W.rules self.old self.new
+            out.old.items out.new.items step.now stepped (D.state disk.old) (D.state disk.new)) }
+        ensures kept { IfOk result (λ stepped.
+            IsKeptStep W.rules self.old self.new out.old.items out.new.items step.now stepped.word) }
+        ensures err { OnErr result (Undone self.old self.new out.old.items out.new.items) }
+        ensures disk_err { OnErr result (disk.new ≡ disk.old) }
+        ensures memory { takes_memory self.old.kept.shared step.now ≡ false →
+            places_for self.old.kept.shared step.now ≤ out.old.spare → IsOk result }
     {
         kept_steps();
         unwinding();

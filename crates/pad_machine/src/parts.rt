@@ -27,6 +27,7 @@ use crate::saying::say;
 use crate::shared_part::Shared;
 use disk_core::PowerDisk;
 use flat_machine::laws::devices::quiet_steps_leave_the_disk;
+use key_attributes::KeyRow;
 use key_source::Key;
 use pad_steps::{DiskWord, Out, Outs, Reply, Step, Told};
 use pad_words::{Nibbles, NoMemory};
@@ -71,6 +72,14 @@ impl<W: PinWork + Drop> Parts<W> {
         ensures { self.now.common.store.bytes ≡ Some result.now }
     {
         self.shared.bytes()
+    }
+
+    /// The key rows behind their slots.
+    pub fn rows(&self) -> &[(u8, KeyRow)]
+        ensures rows { result.now ≡ self.now.common.store.rows }
+        ensures few { length result.now ≤ 64 }
+    {
+        self.shared.rows()
     }
 
     /// The step that is due.

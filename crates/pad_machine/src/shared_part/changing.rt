@@ -18,6 +18,7 @@ use super::Shared;
 use crate::saying::{announce, say, send};
 use check_values::check_value;
 use flat_machine::types::Owner;
+use key_attributes::KeyRow;
 use pad_steps::{Classes, Command, Event, Out, Outs, Refusal, Reply, Verify};
 use pad_words::{KeyName, Nibbles, Session};
 use pin_blocks::PinWork;
@@ -152,6 +153,14 @@ impl<W: PinWork + Drop> Shared<W> {
         ensures { self.now.store.bytes ≡ Some result.now }
     {
         self.keys.bytes()
+    }
+
+    /// The key rows behind their slots.
+    pub fn rows(&self) -> &[(u8, KeyRow)]
+        ensures rows { result.now ≡ self.now.store.rows }
+        ensures few { length result.now ≤ 64 }
+    {
+        self.keys.rows()
     }
 
     /// The PIN work.
