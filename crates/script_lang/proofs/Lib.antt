@@ -26,3 +26,7 @@ pub mod WordPrints
 pub mod PrintLaws
 pub mod ReadLaws
 pub mod WriteLemmas
+pub mod FeedLemmas
+pub mod BufferLemmas
+pub mod LineLemmas
+pub mod CutLaws

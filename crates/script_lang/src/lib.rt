@@ -10,6 +10,8 @@ mod entry_rules;
 mod fields;
 pub mod kinds;
 mod laws;
+mod line_buffer;
+pub mod line_reader;
 mod line_rows;
 mod name_fields;
 mod pin_requests;
@@ -22,9 +24,12 @@ mod word_fields;
 pub mod writing;
 
 pub use kinds::{Line, LineFault};
-pub use laws::spelled_again;
+pub use laws::{lines_are_cut_one_by_one, spelled_again};
+pub use line_reader::{LineReader, Taken};
 pub use reading::read_line;
 pub use writing::write_step;
 
+#[cfg(test)]
+mod line_tests;
 #[cfg(test)]
 mod tests;
