@@ -30,6 +30,10 @@ out_line o = codes "< " ++ out_text o ++ codes "\n"
 unfoldable pub line_text : Line → List ℕ
 line_text l = codes "> " ++ shown_text l.shown ++ disk_word_text l.word l.fate ++ codes "\n" ++ flat_map out_line l.outs
 
+-- the mark of a line outside the grammar, by its number from 1
+unfoldable pub mark_text : ℕ → List ℕ
+mark_text line = codes "! bad line " ++ decimal line ++ codes "\n"
+
 -- the text of a run
 abbrev pub lines_text : List Line → List ℕ
 lines_text lines = flat_map line_text lines

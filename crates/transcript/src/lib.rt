@@ -10,7 +10,7 @@ mod refusals;
 mod replies;
 mod values;
 
-pub use printing::{PrintFault, print_step};
+pub use printing::{PrintFault, Printer};
 
 #[cfg(test)]
 mod tests;

@@ -2,7 +2,7 @@
 ghost use Rattle.std.specs.Prelude.{◌≡◌, ◌++◌, flat_map, IfSome, IsTrue, OnOk};
 ghost use Rattle.std.specs.Option.{option_copied};
 ghost use Rattle.pad_steps.specs.Formed.{is_well_formed};
-ghost use Rattle.transcript.specs.PrintedLines.{out_text, out_line, line_text, line_of_shown};
+ghost use Rattle.transcript.specs.PrintedLines.{out_text, out_line, line_text, line_of_shown, mark_text};
 
 use crate::disk_words::put_disk_word;
 use crate::events::put_event;
@@ -86,4 +86,14 @@ pub fn put_line(
     put_disk_word(alloc, word, fate, text)?;
     write_word("\n", text)?;
     put_outs(alloc, outs, text)
+}
+
+/// Puts the mark of a bad line with this number.
+#[tactic(auto, unfolding(crate::specs::PrintedLines::mark_text))]
+pub fn put_mark(alloc: Global, line: u32, text: &mut Octets) -> Result<(), NoMemory>
+    ensures { OnOk result (text.new ≡ text.old ++ mark_text line) }
+{
+    write_word("! bad line ", text)?;
+    write_number(alloc, line, text)?;
+    write_word("\n", text)
 }

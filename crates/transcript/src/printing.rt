@@ -5,16 +5,16 @@ ghost use Rattle.disk_core.specs.Causes.{Rose};
 ghost use Rattle.disk_core.specs.CountedSinks.{counted_given, counted_faults};
 ghost use Rattle.disk_core.specs.Streams.{GivesFront, with_more};
 ghost use Rattle.pad_steps.specs.Formed.{is_well_formed};
-ghost use Rattle.transcript.specs.PrintedLines.{line_text, line_of_shown, line_of_step};
+ghost use Rattle.transcript.specs.PrintedLines.{line_text, line_of_shown, line_of_step, mark_text};
 
-use crate::lines::put_line;
+use crate::lines::{put_line, put_mark};
 use disk_core::{Counted, Sink, give_all};
 use pad_steps::{DiskWord, Fate, Outs, Step};
 use pad_words::Octets;
 use script_lang::writing::shown_step;
 use std::alloc::Global;
 
-/// Why a step was not printed whole.
+/// Why a text was not printed whole.
 #[derive(Clone, Copy, Debug, PartialEq, Eq)]
 pub enum PrintFault {
     /// The sink failed.
@@ -23,52 +23,100 @@ pub enum PrintFault {
     NoMemory,
 }
 
-/// Gives the text of a step to the sink: the step with the disk's word on one line, `press *` where it is
-/// masked, and a line for each out. After a fault a front of the text was given.
-pub fn print_step<K: Sink>(
+/// Prints the steps of a run one after the other. The memory of a step's text serves the next step again.
+#[derive(Drop)]
+pub struct Printer {
     alloc: Global,
-    step: &Step,
-    masked: bool,
-    word: &DiskWord,
-    fate: Option<Fate>,
-    outs: &Outs,
-    sink: &mut Counted<K>,
-) -> Result<(), PrintFault>
-    requires { IsTrue (is_well_formed step.now) }
-    ensures ok { OnOk result (counted_given K.given sink.new ≡
-        with_more (counted_given K.given sink.old) (line_text (line_of_step step.now masked word.now fate outs.now.items))) }
-    ensures err { OnErr result (GivesFront (counted_given K.given sink.old) (counted_given K.given sink.new)
-        (line_text (line_of_step step.now masked word.now fate outs.now.items))) }
-    ensures memory { result ≡ Err PrintFault.NoMemory → sink.new ≡ sink.old }
-    ensures later { counted_faults K.faults sink.old ≤ counted_faults K.faults sink.new }
-    ensures cause { result ≡ Err PrintFault.Failed → Rose (counted_faults K.faults sink.old) (counted_faults K.faults sink.new) }
-{
-    print_shown(alloc, shown_step(step, masked), word, fate, outs, sink)
+    text: Octets,
 }
 
-// Gives the text of a step as it is shown. It sees no key of a masked press.
-fn print_shown<K: Sink>(
-    alloc: Global,
-    shown: Option<&Step>,
-    word: &DiskWord,
-    fate: Option<Fate>,
-    outs: &Outs,
-    sink: &mut Counted<K>,
-) -> Result<(), PrintFault>
-    requires { IfSome shown (λ step. IsTrue (is_well_formed step.now)) }
-    ensures ok { OnOk result (counted_given K.given sink.new ≡
-        with_more (counted_given K.given sink.old) (line_text (line_of_shown (option_copied shown.entry) word.now fate outs.now.items))) }
-    ensures err { OnErr result (GivesFront (counted_given K.given sink.old) (counted_given K.given sink.new)
-        (line_text (line_of_shown (option_copied shown.entry) word.now fate outs.now.items))) }
-    ensures memory { result ≡ Err PrintFault.NoMemory → sink.new ≡ sink.old }
+impl Printer {
+    /// A printer that has printed nothing.
+    pub fn new(alloc: Global) -> Printer {
+        Printer {
+            alloc,
+            text: Octets::empty(alloc),
+        }
+    }
+
+    /// Gives the text of a step to the sink: the step with the disk's word on one line, `press *` where it is
+    /// masked, and a line for each out. After a fault a front of the text was given.
+    pub fn print_step<K: Sink>(
+        &mut self,
+        step: &Step,
+        masked: bool,
+        word: &DiskWord,
+        fate: Option<Fate>,
+        outs: &Outs,
+        sink: &mut Counted<K>,
+    ) -> Result<(), PrintFault>
+        requires { IsTrue (is_well_formed step.now) }
+        ensures ok { OnOk result (counted_given K.given sink.new ≡
+            with_more (counted_given K.given sink.old) (line_text (line_of_step step.now masked word.now fate outs.now.items))) }
+        ensures err { OnErr result (GivesFront (counted_given K.given sink.old) (counted_given K.given sink.new)
+            (line_text (line_of_step step.now masked word.now fate outs.now.items))) }
+        ensures memory { result ≡ Err PrintFault.NoMemory → sink.new ≡ sink.old }
+        ensures later { counted_faults K.faults sink.old ≤ counted_faults K.faults sink.new }
+        ensures cause { result ≡ Err PrintFault.Failed → Rose (counted_faults K.faults sink.old) (counted_faults K.faults sink.new) }
+    {
+        self.print_shown(shown_step(step, masked), word, fate, outs, sink)
+    }
+
+    /// Gives the mark of a bad line with this number to the sink. After a fault a front of the mark was given.
+    pub fn print_mark<K: Sink>(
+        &mut self,
+        line: u32,
+        sink: &mut Counted<K>,
+    ) -> Result<(), PrintFault>
+        ensures ok { OnOk result (counted_given K.given sink.new ≡
+            with_more (counted_given K.given sink.old) (mark_text line)) }
+        ensures err { OnErr result (GivesFront (counted_given K.given sink.old) (counted_given K.given sink.new) (mark_text line)) }
+        ensures memory { result ≡ Err PrintFault.NoMemory → sink.new ≡ sink.old }
+        ensures later { counted_faults K.faults sink.old ≤ counted_faults K.faults sink.new }
+        ensures cause { result ≡ Err PrintFault.Failed → Rose (counted_faults K.faults sink.old) (counted_faults K.faults sink.new) }
+    {
+        self.text.clear();
+        match put_mark(self.alloc, line, &mut self.text) {
+            Ok(()) => give_text(self.text.items(), sink),
+            Err(_) => Err(PrintFault::NoMemory),
+        }
+    }
+
+    // Gives the text of a step as it is shown. It sees no key of a masked press.
+    fn print_shown<K: Sink>(
+        &mut self,
+        shown: Option<&Step>,
+        word: &DiskWord,
+        fate: Option<Fate>,
+        outs: &Outs,
+        sink: &mut Counted<K>,
+    ) -> Result<(), PrintFault>
+        requires { IfSome shown (λ step. IsTrue (is_well_formed step.now)) }
+        ensures ok { OnOk result (counted_given K.given sink.new ≡
+            with_more (counted_given K.given sink.old) (line_text (line_of_shown (option_copied shown.entry) word.now fate outs.now.items))) }
+        ensures err { OnErr result (GivesFront (counted_given K.given sink.old) (counted_given K.given sink.new)
+            (line_text (line_of_shown (option_copied shown.entry) word.now fate outs.now.items))) }
+        ensures memory { result ≡ Err PrintFault.NoMemory → sink.new ≡ sink.old }
+        ensures later { counted_faults K.faults sink.old ≤ counted_faults K.faults sink.new }
+        ensures cause { result ≡ Err PrintFault.Failed → Rose (counted_faults K.faults sink.old) (counted_faults K.faults sink.new) }
+    {
+        self.text.clear();
+        let Ok(()) = put_line(self.alloc, shown, word, fate, outs.items(), &mut self.text) else {
+            return Err(PrintFault::NoMemory);
+        };
+        give_text(self.text.items(), sink)
+    }
+}
+
+// Gives a text that stands in memory.
+fn give_text<K: Sink>(text: &[u8], sink: &mut Counted<K>) -> Result<(), PrintFault>
+    ensures ok { OnOk result (counted_given K.given sink.new ≡ with_more (counted_given K.given sink.old) text.now) }
+    ensures err { OnErr result (GivesFront (counted_given K.given sink.old) (counted_given K.given sink.new) text.now) }
+    ensures memory { result ≡ Err PrintFault.NoMemory → ⊥ }
     ensures later { counted_faults K.faults sink.old ≤ counted_faults K.faults sink.new }
     ensures cause { result ≡ Err PrintFault.Failed → Rose (counted_faults K.faults sink.old) (counted_faults K.faults sink.new) }
 {
-    let mut text = Octets::empty(alloc);
-    let Ok(()) = put_line(alloc, shown, word, fate, outs.items(), &mut text) else {
-        return Err(PrintFault::NoMemory);
-    };
-    match give_all(sink, text.items()) {
+    match give_all(sink, text) {
         Ok(()) => Ok(()),
         Err(_) => Err(PrintFault::Failed),
     }

@@ -1,6 +1,6 @@
 //! The texts of steps made by hand, byte for byte. What is expected is written from the table of printed lines.
 
-use crate::{PrintFault, print_step};
+use crate::{PrintFault, Printer};
 use disk_core::{Calls, Counted, MemSink};
 use key_attributes::{KeyRow, KeyValue, Uses};
 use key_source::Key;
@@ -48,7 +48,7 @@ fn prints_word(
 ) -> Result<(), Fail> {
     let outs = Outs::new(alloc)?;
     let mut sink = sink(rt, alloc, 40, &[]);
-    let printed = print_step(alloc, &Step::Begin, false, &word, fate, &outs, &mut sink);
+    let printed = Printer::new(alloc).print_step(&Step::Begin, false, &word, fate, &outs, &mut sink);
     assert_eq!(rt; printed, Ok(()), "{line}");
     assert_eq!(rt; sink.inner().bytes(), line.as_bytes(), "{line}");
     Ok(())
@@ -59,8 +59,7 @@ fn prints_out(rt: &impl Abort, alloc: Global, out: Out, line: &str) -> Result<()
     let mut outs = Outs::new(alloc)?;
     outs.push(out)?;
     let mut sink = sink(rt, alloc, 100, &[]);
-    let printed = print_step(
-        alloc,
+    let printed = Printer::new(alloc).print_step(
         &Step::Begin,
         false,
         &DiskWord::Quiet,
@@ -434,10 +433,11 @@ fn pressed_keys(rt: HostRuntime) -> Result<(), Fail> {
             "> press 4\n< 1 event KEY *\n< 1 ended 2 OK entered 4 auto\n",
         ),
     ];
+    let mut printer = Printer::new(rt.alloc());
     for (masked, text) in cases {
         let mut sink = sink(&rt, rt.alloc(), 100, &[]);
         let word = DiskWord::Quiet;
-        let printed = print_step(rt.alloc(), &press, masked, &word, None, &outs, &mut sink);
+        let printed = printer.print_step(&press, masked, &word, None, &outs, &mut sink);
         assert_eq!(rt; printed, Ok(()), "{text}");
         assert_eq!(rt; sink.inner().bytes(), text.as_bytes());
     }
@@ -448,11 +448,11 @@ fn pressed_keys(rt: HostRuntime) -> Result<(), Fail> {
 fn failing_sinks_get_a_front(rt: HostRuntime) -> Result<(), Fail> {
     let outs = Outs::new(rt.alloc())?;
     let cases: [(usize, &[u32], &str); 2] = [(40, &[1], ""), (6, &[], "> begi")];
+    let mut printer = Printer::new(rt.alloc());
     for (room, fails, front) in cases {
         let mut sink = sink(&rt, rt.alloc(), room, fails);
         let word = DiskWord::Done;
-        let printed = print_step(
-            rt.alloc(),
+        let printed = printer.print_step(
             &Step::Begin,
             false,
             &word,
@@ -462,6 +462,22 @@ fn failing_sinks_get_a_front(rt: HostRuntime) -> Result<(), Fail> {
         );
         assert_eq!(rt; printed, Err(PrintFault::Failed), "{front}");
         assert_eq!(rt; sink.inner().bytes(), front.as_bytes());
+    }
+    Ok(())
+}
+
+#[test]
+fn marks_of_bad_lines(rt: HostRuntime) -> Result<(), Fail> {
+    let cases = [
+        (1, "! bad line 1\n"),
+        (65_537, "! bad line 65537\n"),
+    ];
+    let mut printer = Printer::new(rt.alloc());
+    for (line, text) in cases {
+        let mut sink = sink(&rt, rt.alloc(), 40, &[]);
+        let printed = printer.print_mark(line, &mut sink);
+        assert_eq!(rt; printed, Ok(()), "{text}");
+        assert_eq!(rt; sink.inner().bytes(), text.as_bytes());
     }
     Ok(())
 }
