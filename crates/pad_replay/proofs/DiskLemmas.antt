@@ -83,7 +83,11 @@ if_some-all : {A : Type 0} (o : Option A) {P : A → Type 0} → ((x : A) → P 
 if_some-all None all = tt
 if_some-all (Some x) all = all x
 
-if_some-then : {A : Type 0} (o : Option A) {P Q : A → Type 0} → ((x : A) → P x → Q x) → IfSome o P → IfSome o Q
+pub if_some-some : {A : Type 0} (o : Option A) {P : A → Type 0} → ((x : A) → o ≡ Some x → P x) → IfSome o P
+if_some-some None all = tt
+if_some-some (Some x) all = all x refl
+
+pub if_some-then : {A : Type 0} (o : Option A) {P Q : A → Type 0} → ((x : A) → P x → Q x) → IfSome o P → IfSome o Q
 if_some-then None follows holds = tt
 if_some-then (Some x) follows holds = follows x holds
 

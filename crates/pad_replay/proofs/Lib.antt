@@ -1,6 +1,5 @@
-pub mod CutLemmas
-pub mod ReadLemmas
 pub mod RunLemmas
 pub mod TieLemmas
 pub mod DiskLemmas
-pub mod TopLemmas
+pub mod ScriptLemmas
+pub mod EndLemmas

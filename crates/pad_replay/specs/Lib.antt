@@ -1,7 +1,9 @@
 pub mod Asked
 pub mod CommandLine
-pub mod Cuts
+pub mod Endings
+pub mod NextLines
+pub mod Outcomes
 pub mod Parts
-pub mod Reading
+pub mod Replays
 pub mod Runs
 pub mod Script

@@ -9,43 +9,67 @@ use Rattle.flat_machine.specs.Machine.{Act}
 use Rattle.flat_machine.specs.State.{Flat, is_off, opening}
 use Rattle.pad_machine.specs.Stands.{PadState, StandsFor}
 use Rattle.pad_steps.specs.declared.steps.DiskWord.{DiskWord}
-use Rattle.pad_replay.specs.Runs.{Player, play, program_setting, text_from, with_deeds}
+use Rattle.pad_replay.specs.Runs.{Player, Wordless, play_then, played_text, program_setting, text_from, with_deeds}
+use Rattle.pad_replay.specs.Script.{feeds_in, lines_before, lines_behind, lines_of}
 use Rattle.script_lang.specs.declared.kinds.Line.{Line}
-use Rattle.std.specs.Prelude.{IfSome, IsTrue, List, Option, [], false, is_some, true, ℕ, ◌++◌, ◌≡◌}
+use Rattle.std.specs.Prelude.{Bool, IfSome, IsTrue, List, Option, [], false, is_some, length, ℕ, ◌++◌, ◌≡◌}
+
+-- How far a replay is: the pad, the words that the disk said, what the sink was given, and the disk.
+pub record Progress : Type 1 where
+  pub pad : PadState
+  pub words : List DiskWord
+  pub given : Option (List ℕ)
+  pub disk : DiskState
 
 -- From a state the machine took the front of a whole over a disk: it stands for the state after what it did, a rest is left to play, and what it did is a run on the disk.
-pub record Took (seed : List ℕ) (before : Flat) (whole rest : Player) (pad : PadState) (words told : List DiskWord) (s t : DiskState) : Type 0 where
+pub record Took (seed : List ℕ) (start : Flat) (whole rest : Player) (before after : Progress) : Type 0 where
   pub more : List DiskWord
-  pub told_more : told ≡ words ++ more
+  pub told_more : after.words ≡ before.words ++ more
   pub done : List Deed
-  pub stands : StandsFor pad seed (after_deeds (program_setting seed) before done)
-  pub played : (tail : List DiskWord) → whole before (more ++ tail) ≡ with_deeds done (rest (after_deeds (program_setting seed) before done) tail)
-  pub on_disk : RunOnDisk key_layout (program_setting seed) before done s t
+  pub stands : StandsFor after.pad seed (after_deeds (program_setting seed) start done)
+  pub played : (tail : List DiskWord) → whole start (more ++ tail) ≡ with_deeds done (rest (after_deeds (program_setting seed) start done) tail)
+  pub on_disk : RunOnDisk key_layout (program_setting seed) start done before.disk after.disk
 
 -- From a state the machine took the front of a whole over a disk, and all of its text was given.
-pub record Ran (seed : List ℕ) (before : Flat) (whole rest : Player) (pad : PadState) (words told : List DiskWord) (given now : Option (List ℕ)) (s t : DiskState) : Type 0 where
-  pub took : Took seed before whole rest pad words told s t
+pub record Ran (seed : List ℕ) (start : Flat) (whole rest : Player) (before after : Progress) : Type 0 where
+  pub took : Took seed start whole rest before after
   pub text : List ℕ
-  pub printed : now ≡ with_more given text
-  pub spelled : (others : List Act) → text_from seed before (acts_in took.done ++ others) ≡ text ++ text_from seed (after_deeds (program_setting seed) before took.done) others
+  pub printed : after.given ≡ with_more before.given text
+  pub spelled : (others : List Act) → text_from seed start (acts_in took.done ++ others) ≡ text ++ text_from seed (after_deeds (program_setting seed) start took.done) others
 
--- From a state the machine played some of a whole over a disk: of what these words play, it did all but armings at the end, and a front of the text was given.
-pub record BrokeOff (seed : List ℕ) (before : Flat) (whole : Player) (words told : List DiskWord) (given now : Option (List ℕ)) (s t : DiskState) : Type 0 where
+-- From a state the machine played some of a whole over a disk: of what these words play, it did all but armings at the end, and a front of the text was given; where not all steps of the part at hand were taken the words are too few.
+pub record BrokeOff (seed : List ℕ) (start : Flat) (whole : Player) (is_taken : Bool) (before after : Progress) : Type 0 where
   pub more : List DiskWord
-  pub told_more : told ≡ words ++ more
+  pub told_more : after.words ≡ before.words ++ more
   pub done : List Deed
   pub left : List Deed
-  pub parts : (whole before more).deeds ≡ done ++ left
+  pub parts : (whole start more).deeds ≡ done ++ left
   pub armings : acts_in left ≡ []
-  pub on_disk : RunOnDisk key_layout (program_setting seed) before done s t
-  pub front : GivesFront given now (text_from seed before (acts_in (whole before more).deeds))
+  pub on_disk : RunOnDisk key_layout (program_setting seed) start done before.disk after.disk
+  pub front : GivesFront before.given after.given (played_text seed start (whole start more))
+  pub few : is_taken ≡ false → (whole start more).whole ≡ false
 
--- Of the words told, a front is one for each step of these lines; what is left belongs to a line after them.
-pub record PlaysFront (seed : List ℕ) (before : Flat) (lines : List Line) (words told : List DiskWord) : Type 0 where
-  pub front : List DiskWord
-  pub back : List DiskWord
-  pub parts : told ≡ words ++ (front ++ back)
-  pub whole : (play seed lines before front).whole ≡ true
+-- Wherever the pad stands, a part was run whole, and whatever follows it is left to play.
+abbrev pub RunsPart : (List ℕ → Player → Player) → Progress → Progress → Type 0
+RunsPart part before after = (seed : List ℕ) (start : Flat) (rest : Player) → StandsFor before.pad seed start → Ran seed start (part seed rest) rest before after
+
+-- Wherever the pad stands, a part was taken whole, and whatever follows it is left to play.
+abbrev pub TakesPart : (List ℕ → Player → Player) → Progress → Progress → Type 0
+TakesPart part before after = (seed : List ℕ) (start : Flat) (rest : Player) → StandsFor before.pad seed start → Took seed start (part seed rest) rest before after
+
+-- Wherever the pad stands, a run broke off in a part; where not all of its steps were taken the words are too few for it.
+abbrev pub BreaksPart : (List ℕ → Player → Player) → Bool → Progress → Progress → Type 0
+BreaksPart part is_taken before after = (seed : List ℕ) (start : Flat) (rest : Player) → Wordless rest → StandsFor before.pad seed start → BrokeOff seed start (part seed rest) is_taken before after
+
+-- A run came behind these lines of a script: the rest of the script is still to be cut and to be played.
+pub record RanLines (seed script : List ℕ) (count : ℕ) (rest : List ℕ) (before after : Progress) : Type 0 where
+  pub cut : List ℕ
+  pub parts : script ≡ cut ++ rest
+  pub feeds : feeds_in cut ≡ count
+  pub lines : List Line
+  pub many : length lines ≡ count
+  pub are : lines_of script ≡ lines_before lines (lines_behind count rest)
+  pub ran : (others : Player) → Ran seed opening (play_then seed lines others) others before after
 
 -- What the steps and armings of a script did to a disk, in a run of this seed.
 pub record RunsOnDisk (seed : List ℕ) (deeds : List Deed) (s t : DiskState) : Type 0 where

@@ -1,49 +1,45 @@
 -- The lines of a script.
-use Rattle.std.specs.Prelude.{Bool, List, None, Option, Some, [], if◌then◌else◌, length, nat_le, not, ℕ, ◌++◌, ◌==◌, ◌∷◌}
-use Rattle.std.specs.List.{list_all}
+use Rattle.std.specs.Prelude.{Bool, List, None, Option, Some, [], if◌then◌else◌, suc, ℕ, ◌++◌, ◌+◌, ◌==◌, ◌∷◌, ◌≡◌}
+use Rattle.script_lang.specs.Lines.{lines_cut}
 use Rattle.script_lang.specs.Reading.{line_of}
 use Rattle.script_lang.specs.declared.kinds.Line.{Line}
 
--- the pieces with an empty one before them
-abbrev pub with_empty_piece : Option (List (List ℕ)) → Option (List (List ℕ))
-with_empty_piece None = None
-with_empty_piece (Some pieces) = Some ([] ∷ pieces)
+-- the lines before the first bad one, and the number of that one, if there is one
+pub record ScriptLines : Type 0 where
+  pub lines : List Line
+  pub bad : Option ℕ
 
--- the pieces with a byte before the first, where there is one
-abbrev pub with_byte : ℕ → Option (List (List ℕ)) → Option (List (List ℕ))
-with_byte byte None = None
-with_byte byte (Some []) = None
-with_byte byte (Some (piece ∷ pieces)) = Some ((byte ∷ piece) ∷ pieces)
+-- a line before others; a text that is no line of the grammar is the first bad line, and has this number
+abbrev pub with_line : ℕ → Option Line → ScriptLines → ScriptLines
+with_line number None more = record { lines = []; bad = Some number }
+with_line number (Some line) more = record { lines = line ∷ more.lines; bad = more.bad }
 
--- the bytes before each line feed; none where the last byte is no line feed
-abbrev pub pieces_of : List ℕ → Option (List (List ℕ))
-pieces_of [] = Some []
-pieces_of (byte ∷ bytes) = if byte == 10 then with_empty_piece (pieces_of bytes) else with_byte byte (pieces_of bytes)
+-- the lines of these texts, of which the first has this number; behind them a bad line may come
+abbrev pub lines_in : ℕ → List (List ℕ) → Bool → ScriptLines
+lines_in number [] is_bad = record { lines = []; bad = if is_bad then Some number else None }
+lines_in number (text ∷ texts) is_bad = with_line number (line_of text) (lines_in (number + 1) texts is_bad)
 
--- a piece with its line feed
-abbrev pub with_feed : List ℕ → List ℕ
-with_feed piece = piece ++ 10 ∷ []
+-- the lines of the rest of a script, of which so many lines were cut before
+unfoldable pub lines_behind : ℕ → List ℕ → ScriptLines
+lines_behind count rest = lines_in (count + 1) (lines_cut count rest).lines (lines_cut count rest).is_bad
 
--- no byte of the piece is a line feed
-abbrev pub is_feedless : List ℕ → Bool
-is_feedless piece = list_all (λ byte. not (byte == 10)) piece
+-- the lines of a script
+abbrev pub lines_of : List ℕ → ScriptLines
+lines_of script = lines_behind 0 script
 
--- a line before others, where all are there
-abbrev pub with_line : Option Line → Option (List Line) → Option (List Line)
-with_line None lines = None
-with_line (Some line) None = None
-with_line (Some line) (Some lines) = Some (line ∷ lines)
+-- lines before those of a rest
+abbrev pub lines_before : List Line → ScriptLines → ScriptLines
+lines_before lines rest = record { lines = lines ++ rest.lines; bad = rest.bad }
 
--- the line of each piece, where each has one
-abbrev pub lines_in : List (List ℕ) → Option (List Line)
-lines_in [] = Some []
-lines_in (piece ∷ pieces) = with_line (line_of piece) (lines_in pieces)
+-- how many line feeds are among the bytes
+abbrev pub feeds_in : List ℕ → ℕ
+feeds_in [] = 0
+feeds_in (byte ∷ bytes) = if byte == 10 then suc (feeds_in bytes) else feeds_in bytes
 
--- the line of each piece, where there are pieces
-abbrev pub lines_of_pieces : Option (List (List ℕ)) → Option (List Line)
-lines_of_pieces None = None
-lines_of_pieces (Some pieces) = lines_in pieces
-
--- the lines of a script of at most 1,048,576 bytes; none where one is outside the grammar or the last is not ended
-unfoldable pub lines_of : List ℕ → Option (List Line)
-lines_of script = if nat_le (length script) 1048576 then lines_of_pieces (pieces_of script) else None
+-- these bytes were taken from a source that had a script, and so many lines are whole among them
+pub record IsTaken (script : List ℕ) (left : Option (List ℕ)) (count : ℕ) : Type 0 where
+  pub taken : List ℕ
+  pub rest : List ℕ
+  pub told : left ≡ Some rest
+  pub parts : script ≡ taken ++ rest
+  pub feeds : feeds_in taken ≡ count

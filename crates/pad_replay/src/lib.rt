@@ -1,10 +1,10 @@
-//! Whole runs: a script is read, run over a disk step by step, and printed as a transcript.
+//! Whole runs: a script is read line by line, run over a disk step by step, and printed as a transcript.
 #![tactic(auto)]
 
 mod command_line;
-mod cutting;
-mod reading;
-mod running;
+mod replay;
+mod script_reader;
+mod script_run;
 #[cfg(test)]
 mod tests;
 mod top;
