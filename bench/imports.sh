@@ -9,12 +9,12 @@
 # enciphered. The difference has two keys' rounds, three blocks of DES, and the six digits that are printed.
 #
 # The two scripts take turns, RUNS times (9), and the least time of each counts. No clause tells the time, so this stands
-# outside the gate. The program is the first argument, or the one that ./replay builds. It needs python3.
+# outside the gate. The program is the first argument, or the one that ./replay --proved builds. It needs python3.
 set -euo pipefail
 cd "$(dirname "$0")/.."
 program=${1:-crates/pinpad_cli/out/pinpad_cli}
 if [ ! -x "$program" ]; then
-    echo "bench/imports.sh: $program is not there: run ./replay examples/entry.txt first, or name the program" >&2
+    echo "bench/imports.sh: $program is not there: run ./replay --proved examples/entry.txt first, or name the program" >&2
     exit 2
 fi
 RUNS=${RUNS:-9}

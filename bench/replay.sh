@@ -1,30 +1,30 @@
 #!/usr/bin/env bash
-# Times the program on large scripts, each at a tenth and at the whole of the greatest length, 1,048,576 bytes: one
-# long entry, many short ones, as many lines as there can be, and 65,536 lines of sixteen sessions that submit, lock,
-# cancel and let time go by. The transcript goes to a file.
-# The program is the first argument, or the one that ./replay builds.
+# Times the program on large scripts, each of a tenth and of the whole of the greatest number of lines, 65,536: one long
+# entry; many short ones; the shortest lines, which print nothing; comments of 4,096 bytes, the longest lines; CRYPT of
+# 1,024 bytes each; and sixteen sessions that submit, lock, cancel and let time go by. The transcript goes to a file.
+#
+# The program is the first argument, or the one that ./replay --proved builds. MOST is another number of lines.
+# It needs python3. No clause tells the time, so this stands outside the gate.
 set -euo pipefail
 cd "$(dirname "$0")/.."
 program=${1:-crates/pinpad_cli/out/pinpad_cli}
 if [ ! -x "$program" ]; then
-    echo "bench/replay.sh: $program is not there: run ./replay examples/entry.txt first, or name the program" >&2
+    echo "bench/replay.sh: $program is not there: run ./replay --proved examples/entry.txt first, or name the program" >&2
     exit 2
 fi
+MOST=${MOST:-65536}
 work=$(mktemp -d)
 trap 'rm -rf "$work"' EXIT
 
 submit='submit 1 0 getpin 4 16 hold 000F03FF00000000 0003000000000000'
-longest=1048576
+
+# Each of these prints a script of at most so many lines.
 
 # One entry that is filled and cleared again and again, and ended by Enter at last.
 long_entry() {
     printf 'boot\nopen 1\nlisten 1 execute\n%s\nauto\n' "$submit"
-    awk -v bytes=$(($1 - 200)) 'BEGIN {
-        for (at = 0; at < bytes; at += length(line) + 1) {
-            line = n % 20 == 19 ? "press clear" : "press " n % 10
-            print line
-            n++
-        }
+    awk -v lines=$(($1 - 10)) 'BEGIN {
+        for (n = 0; n < lines; n++) print n % 20 == 19 ? "press clear" : "press " n % 10
     }'
     printf 'press 1\npress 2\npress 3\npress 4\npress enter\n'
 }
@@ -32,20 +32,37 @@ long_entry() {
 # Entries that are each ended by CANCEL at once.
 short_entries() {
     printf 'boot\nopen 1\nlisten 1 execute\n'
-    awk -v bytes=$(($1 - 200)) -v submit="$submit" 'BEGIN {
-        entry = submit "\nauto\npress cancel"
-        for (at = 0; at < bytes; at += length(entry) + 1) print entry
+    awk -v entries=$((($1 - 3) / 3)) -v submit="$submit" 'BEGIN {
+        for (n = 0; n < entries; n++) print submit "\nauto\npress cancel"
     }'
 }
 
-# The shortest lines. Nothing is due, so nothing is printed.
+# The shortest lines. Nothing is due.
 short_lines() {
-    awk -v lines=$(($1 / 5)) 'BEGIN { for (n = 0; n < lines; n++) print "auto" }'
+    awk -v lines="$1" 'BEGIN { for (n = 0; n < lines; n++) print "auto" }'
+}
+
+# The longest lines.
+long_lines() {
+    awk -v lines="$1" 'BEGIN {
+        line = "#"
+        while (length(line) < 4096) line = line "."
+        for (n = 0; n < lines; n++) print line
+    }'
+}
+
+# A message of the greatest length, encrypted again and again. Each answer is kept to the end of the run.
+long_messages() {
+    printf 'boot\nopen 1\nsubmit 1 0 import K clear 0123456789ABCDEF 0001 none\nauto\n'
+    awk -v messages=$((($1 - 4) / 2)) 'BEGIN {
+        while (length(bytes) < 2048) bytes = bytes "5A"
+        for (n = 0; n < messages; n++) print "submit 1 0 crypt cbc encrypt K - 00 " bytes "\nauto"
+    }'
 }
 
 # Sixteen sessions, in turn: a request is canceled while the session holds the lock, and another comes into work or times out.
 sessions() {
-    awk -v lines=$(($1 / 16)) 'BEGIN {
+    awk -v lines="$1" 'BEGIN {
         print "boot"
         for (s = 1; s <= 16; s++) print "open " s
         for (n = 0; n < lines - 17; n++) {
@@ -85,18 +102,18 @@ print(f"{min(seconds):.3f}", max(peak))
 PYTHON
 }
 
-for kind in long_entry short_entries short_lines sessions; do
+for kind in long_entry short_entries short_lines long_lines long_messages sessions; do
     taken=()
     each=()
-    for bytes in $((longest / 10)) $longest; do
-        "$kind" "$bytes" >"$work/script"
+    for most in $((MOST / 10)) "$MOST"; do
+        "$kind" "$most" >"$work/script"
         measured=$(timed "$work/script")
         read -r seconds peak <<<"$measured"
-        printf '%-14s %8d bytes %6d lines %8s s %8d KB\n' "$kind" "$(wc -c <"$work/script")" \
-            "$(wc -l <"$work/script")" "$seconds" "$peak"
+        lines=$(wc -l <"$work/script")
+        printf '%-14s %6d lines %10d bytes %8s s %8d KB\n' "$kind" "$lines" "$(wc -c <"$work/script")" "$seconds" "$peak"
         taken+=("$seconds")
-        each+=("$(awk -v seconds="$seconds" -v lines="$(wc -l <"$work/script")" 'BEGIN { printf "%.2f", 1e6 * seconds / lines }')")
+        each+=("$(awk -v seconds="$seconds" -v lines="$lines" 'BEGIN { printf "%.2f", 1e6 * seconds / lines }')")
     done
-    awk -v kind=$kind -v small="${taken[0]}" -v large="${taken[1]}" -v one="${each[0]}" -v other="${each[1]}" \
+    awk -v kind="$kind" -v small="${taken[0]}" -v large="${taken[1]}" -v one="${each[0]}" -v other="${each[1]}" \
         'BEGIN { printf "%-14s the large one takes %.1f times as long, %s and %s microseconds a line\n", kind, large / small, one, other }'
 done
