@@ -1,12 +1,12 @@
 //! The pad and its step.
 ghost use Rattle.std.specs.Prelude.{◌≡◌, ◌<◌, ◌≤◌, ◌+◌, ◌-◌, ◌^◌, ℕ, List, IsTrue, IfOk, IfSome, IsOk, OnErr, OnOk, Some, false, length, true};
-ghost use Rattle.flat_machine.specs.Machine.{is_masked, next_work, status};
+ghost use Rattle.flat_machine.specs.Machine.{has_pin, is_masked, next_work, status};
 ghost use Rattle.flat_machine.specs.RequestFacts.{draws, work_left};
 ghost use Rattle.flat_machine.specs.State.{Flat, is_off, is_ready, opening};
 ghost use Rattle.pad_machine.specs.Does.{Undone};
 ghost use Rattle.pad_machine.specs.Memory.{places_for, takes_memory};
 ghost use Rattle.pad_machine.specs.Runs.{HistoryGoesOn, IsKeptStep, IsMachineStep, IsPadStep, PadIsTied, PadStepOnDisk, Unwinds};
-ghost use Rattle.pad_machine.specs.Stands.{StandsFor};
+ghost use Rattle.pad_machine.specs.Stands.{StandsFor, status_with};
 ghost use Rattle.pad_steps.specs.Formed.{is_well_formed};
 
 mod twice;
@@ -24,6 +24,7 @@ use pad_words::NoMemory;
 use pin_blocks::PinWork;
 use std::alloc::Global;
 use std::marker::Model;
+use std::snapshot::Snapshot;
 
 /// What a step came to, besides what it says.
 #[derive(Drop)]
@@ -138,6 +139,13 @@ impl<W: PinWork + Drop> Pad<W> {
         self.parts.bytes()
     }
 
+    /// The seed of the fill words, for clauses alone: what is given has no bytes.
+    pub fn seed(&self) -> Snapshot<[u8; 32]>
+        ensures { result.value ≡ self.now.kept.seed }
+    {
+        self.parts.seed()
+    }
+
     /// The step that is due: Finish of a command in work that is no entry, or Begin where nothing is in work and a request waits.
     pub fn next_work(&self) -> Option<Step>
         ensures due { (seed : List ℕ) (state : Flat) →
@@ -154,8 +162,9 @@ impl<W: PinWork + Drop> Pad<W> {
     /// times the work that is due (none 0, Begin 1, Finish 2), 64 times the session that holds the lock (0 for none), and
     /// 2,048 times the number of ended requests.
     pub fn status(&self) -> u64
-        ensures { (seed : List ℕ) (state : Flat) →
+        ensures state { (seed : List ℕ) (state : Flat) →
             StandsFor self.now seed state → result ≡ status state }
+        ensures kept { result ≡ status_with self.now.kept.shared (has_pin self.now.kept.held) }
     {
         self.parts.status()
     }

@@ -35,6 +35,7 @@ use pin_blocks::PinWork;
 use pin_buffer::PinBuffer;
 use std::alloc::Global;
 use std::marker::Model;
+use std::snapshot::Snapshot;
 
 /// The seed of the fill words, what is the same in twins, the digits of the running entry, and the held PIN.
 #[derive(Drop)]
@@ -64,6 +65,13 @@ impl<W: PinWork + Drop> Parts<W> {
             digits: Nibbles::empty(),
             held: PinBuffer::empty(),
         })
+    }
+
+    /// The seed, for clauses alone.
+    pub fn seed(&self) -> Snapshot<[u8; 32]>
+        ensures { result.value ≡ self.now.seed }
+    {
+        Snapshot::of(&self.seed)
     }
 
     /// The bytes of the store, while it is settled.
