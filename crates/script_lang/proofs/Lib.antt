@@ -24,6 +24,7 @@ pub mod ArmingLaws
 pub mod LineLaws
 pub mod WordPrints
 pub mod PrintLaws
+pub mod MemoryLaws
 pub mod ReadLaws
 pub mod WriteLemmas
 pub mod FeedLemmas

@@ -61,7 +61,7 @@ ask_takes bytes y e =
     let s = ask_reads.takes bytes y e in
     subst (λ y. LineFits y × After (line_verb_word line_verb.Ask) bytes (line_words y)) s.4.2 (s.4.1.0, (refl, (s.2, s.3, s.4.1.1)))
 
-rows_take_lines : (verb : LineVerb) → RowTakes LineFits line_words (line_verb_word verb) (line_after verb)
+pub rows_take_lines : (verb : LineVerb) → RowTakes LineFits line_words (line_verb_word verb) (line_after verb)
 unfolding read_listen read_cancel read_press read_tick
 rows_take_lines line_verb.Auto = row_none LineFits line_words (line_verb_word line_verb.Auto) line.Auto tt refl
 rows_take_lines line_verb.Open = session_takes line_verb.Open (λ s. step.Open s) (λ s. tt) (λ s. refl)

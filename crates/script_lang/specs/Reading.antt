@@ -273,6 +273,14 @@ read_crypt = with_field read_algorithm (λ a. with_field read_direction (λ d. w
 unfoldable pub read_sourced : List ℕ → ImportSource → List ℕ → Option ImportRequest
 read_sourced name source = with_field read_uses (λ uses. with_field read_verify (λ v. ended (record { name = name; source = source; uses = uses; verify = v })))
 
+-- the uses and the check mode, to the line's end
+unfoldable pub read_usage : List ℕ → Option (ℕ × Verify)
+read_usage = with_field read_uses (λ uses. with_field read_verify (λ v. ended (uses, v)))
+
+-- the import of this name from this source, with its uses and its check mode
+abbrev pub import_of : List ℕ → ImportSource → (ℕ × Verify) → ImportRequest
+import_of name source usage = record { name = name; source = source; uses = usage.0; verify = usage.1 }
+
 -- an import of this name, behind the first word of its source
 abbrev pub source_after : List ℕ → SourceKind → List ℕ → Option ImportRequest
 source_after name source_kind.Clear = with_field (read_bytes 1 64) (λ value. read_sourced name (origin.Clear value))

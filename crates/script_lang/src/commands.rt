@@ -1,7 +1,8 @@
 //! Commands read from left to right, to the line's end.
 ghost use Rattle.std.specs.Prelude.{◌≡◌, Err};
 ghost use Rattle.script_lang.specs.declared.kinds.LineFault.TheVariants.{NoMemory};
-ghost use Rattle.script_lang.specs.Reading.{command_after, ended, read_command, read_crypt, read_import, read_only_name, read_only_switch, read_sourced, Gives};
+ghost use Rattle.script_lang.specs.Memory.{command_holds_bytes, crypt_holds_bytes, import_holds_bytes, ReadsBytes};
+ghost use Rattle.script_lang.specs.Reading.{command_after, ended, import_of, read_command, read_crypt, read_import, read_only_name, read_only_switch, read_usage, source_after, Gives};
 
 use crate::crypt_fields::{read_body, read_start};
 use crate::cutting::{ended, next_word};
@@ -12,7 +13,7 @@ use crate::name_fields::read_name;
 use crate::pin_requests::{read_check, read_extra, read_pinblock};
 use crate::verb_fields::{read_command_verb, read_source_kind};
 use crate::word_fields::{read_algorithm, read_direction, read_switch, read_verify};
-use pad_steps::{Command, CryptRequest, ImportRequest, ImportSource, PinRequest};
+use pad_steps::{Command, CryptRequest, ImportRequest, ImportSource, PinRequest, Verify};
 use pad_words::KeyName;
 use std::alloc::Global;
 
@@ -32,7 +33,8 @@ pub fn present<T: Drop>(found: Option<T>) -> Result<T, LineFault>
 
 // this value, where no byte is left
 pub fn at_end<T: Drop>(rest: &[u8], value: T) -> Result<T, LineFault>
-    ensures { Gives result (ended value rest.now) }
+    ensures given { Gives result (ended value rest.now) }
+    ensures memory { result ≡ Err NoMemory → ⊥ }
 {
     if rest.is_empty() {
         Ok(value)
@@ -64,52 +66,83 @@ fn read_only_switch(rest: &[u8]) -> Option<bool>
 }
 
 // the uses and the check mode behind a source
-#[tactic(auto, unfolding(crate::specs::Reading::read_sourced))]
-fn read_sourced(name: KeyName, source: ImportSource, rest: &[u8]) -> Option<ImportRequest>
-    ensures { result ≡ read_sourced name source rest.now }
+#[tactic(auto, unfolding(crate::specs::Reading::read_usage))]
+fn read_usage(rest: &[u8]) -> Option<(u16, Verify)>
+    ensures { result ≡ read_usage rest.now }
 {
     let (word, rest) = next_word(rest)?;
     let uses = read_uses(word)?;
     let (word, rest) = next_word(rest)?;
     let verify = read_verify(word)?;
     ended(rest)?;
-    Some(ImportRequest {
+    Some((uses, verify))
+}
+
+// the import of this name from this source, with its uses and its check mode
+fn import_of(name: KeyName, source: ImportSource, usage: (u16, Verify)) -> ImportRequest
+    ensures { result ≡ import_of name source usage }
+{
+    let (uses, verify) = usage;
+    ImportRequest {
         name,
         source,
         uses,
         verify,
-    })
+    }
 }
 
-// the import of a key: its name, where its value comes from, its uses and the check mode
-#[tactic(auto, unfolding(crate::specs::Reading::read_import))]
-fn read_import(alloc: Global, rest: &[u8]) -> Result<ImportRequest, LineFault>
-    ensures { Gives result (read_import rest.now) }
+// the import of this name behind the first word of its source; its value is decoded last
+#[tactic(auto, using(crate::proofs::MemoryLaws::sourced_is))]
+fn read_import_row(
+    alloc: Global,
+    name: KeyName,
+    kind: SourceKind,
+    rest: &[u8],
+) -> Result<ImportRequest, LineFault>
+    ensures given { Gives result (source_after name kind rest.now) }
+    ensures memory { result ≡ Err NoMemory →
+        ReadsBytes import_holds_bytes (source_after name kind rest.now) }
 {
-    let (word, rest) = present(next_word(rest))?;
-    let name = present(read_name(word))?;
-    let (word, rest) = present(next_word(rest))?;
-    match present(read_source_kind(word))? {
+    match kind {
         SourceKind::Clear => {
             let (word, rest) = present(next_word(rest))?;
-            let value = read_bytes(alloc, 1, MOST_KEY_BYTES, word)?;
-            present(read_sourced(name, ImportSource::Clear(value), rest))
+            let usage = present(read_usage(rest))?;
+            let value = read_bytes(alloc, MOST_KEY_BYTES, word)?;
+            Ok(import_of(name, ImportSource::Clear(value), usage))
         }
         SourceKind::Sealed => {
             let (word, rest) = present(next_word(rest))?;
             let key = present(read_name(word))?;
             let (word, rest) = present(next_word(rest))?;
-            let value = read_bytes(alloc, 1, MOST_KEY_BYTES, word)?;
-            present(read_sourced(name, ImportSource::Sealed(key, value), rest))
+            let usage = present(read_usage(rest))?;
+            let value = read_bytes(alloc, MOST_KEY_BYTES, word)?;
+            Ok(import_of(name, ImportSource::Sealed(key, value), usage))
         }
-        SourceKind::Part => present(read_sourced(name, ImportSource::Part, rest)),
+        SourceKind::Part => {
+            let usage = present(read_usage(rest))?;
+            Ok(import_of(name, ImportSource::Part, usage))
+        }
     }
+}
+
+// the import of a key: its name, where its value comes from, its uses and the check mode
+#[tactic(auto, unfolding(crate::specs::Reading::read_import))]
+fn read_import(alloc: Global, rest: &[u8]) -> Result<ImportRequest, LineFault>
+    ensures given { Gives result (read_import rest.now) }
+    ensures memory { result ≡ Err NoMemory → ReadsBytes import_holds_bytes (read_import rest.now) }
+{
+    let (word, rest) = present(next_word(rest))?;
+    let name = present(read_name(word))?;
+    let (word, rest) = present(next_word(rest))?;
+    let kind = present(read_source_kind(word))?;
+    read_import_row(alloc, name, kind, rest)
 }
 
 // what is to be encrypted, decrypted or authenticated, and how
 #[tactic(auto, unfolding(crate::specs::Reading::read_crypt))]
 fn read_crypt(alloc: Global, rest: &[u8]) -> Result<CryptRequest, LineFault>
-    ensures { Gives result (read_crypt rest.now) }
+    ensures given { Gives result (read_crypt rest.now) }
+    ensures memory { result ≡ Err NoMemory → ReadsBytes crypt_holds_bytes (read_crypt rest.now) }
 {
     let (word, rest) = present(next_word(rest))?;
     let algorithm = present(read_algorithm(word))?;
@@ -122,8 +155,8 @@ fn read_crypt(alloc: Global, rest: &[u8]) -> Result<CryptRequest, LineFault>
     let (word, rest) = present(next_word(rest))?;
     let pad = present(read_byte(word))?;
     let (word, rest) = present(next_word(rest))?;
-    let body = read_body(alloc, word)?;
     present(ended(rest))?;
+    let body = read_body(alloc, word)?;
     Ok(CryptRequest {
         algorithm,
         direction,
@@ -136,7 +169,9 @@ fn read_crypt(alloc: Global, rest: &[u8]) -> Result<CryptRequest, LineFault>
 
 // the command that begins with this verb
 fn read_command_row(alloc: Global, verb: CommandVerb, rest: &[u8]) -> Result<Command, LineFault>
-    ensures { Gives result (command_after verb rest.now) }
+    ensures given { Gives result (command_after verb rest.now) }
+    ensures memory { result ≡ Err NoMemory →
+        ReadsBytes command_holds_bytes (command_after verb rest.now) }
 {
     match verb {
         CommandVerb::GetPin => Ok(Command::GetPin(present(read_rules(rest))?)),
@@ -167,7 +202,8 @@ fn read_command_row(alloc: Global, verb: CommandVerb, rest: &[u8]) -> Result<Com
 // the command that begins with the next word
 #[tactic(auto, unfolding(crate::specs::Reading::read_command))]
 pub fn read_command(alloc: Global, rest: &[u8]) -> Result<Command, LineFault>
-    ensures { Gives result (read_command rest.now) }
+    ensures given { Gives result (read_command rest.now) }
+    ensures memory { result ≡ Err NoMemory → ReadsBytes command_holds_bytes (read_command rest.now) }
 {
     let (word, rest) = present(next_word(rest))?;
     let verb = present(read_command_verb(word))?;

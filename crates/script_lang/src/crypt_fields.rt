@@ -1,5 +1,7 @@
 //! The start value and the bytes of a crypt command.
-ghost use Rattle.std.specs.Prelude.{◌≡◌, ◌≤◌, length};
+ghost use Rattle.std.specs.Prelude.{◌≡◌, ◌≤◌, length, Err};
+ghost use Rattle.script_lang.specs.declared.kinds.LineFault.TheVariants.{NoMemory};
+ghost use Rattle.script_lang.specs.Memory.{has_bytes, ReadsBytes};
 ghost use Rattle.script_lang.specs.Reading.{tag_len, read_start_block, read_start, read_body, Gives};
 
 use crate::cutting::is;
@@ -52,11 +54,12 @@ pub fn read_start(word: &[u8]) -> Option<Start>
 // at most 1,024 bytes, or `-` for none
 #[tactic(auto, unfolding(crate::specs::Reading::read_body))]
 pub fn read_body(alloc: Global, word: &[u8]) -> Result<Octets, LineFault>
-    ensures { Gives result (read_body word.now) }
+    ensures given { Gives result (read_body word.now) }
+    ensures memory { result ≡ Err NoMemory → ReadsBytes has_bytes (read_body word.now) }
 {
     if is(word, "-") {
         Ok(Octets::empty(alloc))
     } else {
-        read_bytes(alloc, 1, MOST_BYTES, word)
+        read_bytes(alloc, MOST_BYTES, word)
     }
 }

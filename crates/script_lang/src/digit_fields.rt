@@ -1,7 +1,9 @@
 //! Hexadecimal digits in either case: numbers, masks, half bytes and bytes.
-ghost use Rattle.std.specs.Prelude.{◌≡◌, ◌≤◌, ◌<◌, ◌^◌, ◌*◌, ◌+◌, length, IfSome};
+ghost use Rattle.std.specs.Prelude.{◌≡◌, ◌≤◌, ◌<◌, ◌^◌, ◌*◌, ◌+◌, length, Err, IfSome};
 ghost use Rattle.std.specs.Option.{option_map};
+ghost use Rattle.script_lang.specs.declared.kinds.LineFault.TheVariants.{NoMemory};
 ghost use Rattle.script_lang.specs.Words.{hex_value, hex_values};
+ghost use Rattle.script_lang.specs.Memory.{has_bytes, ReadsBytes};
 ghost use Rattle.script_lang.specs.Reading.{hex_number, hex_bytes, read_mask, read_uses, read_byte, read_nibble, read_nibbles, read_nibbles_or_dash, read_offset, read_table, where_decimal, read_bytes, read_block, Gives};
 
 use crate::cutting::is;
@@ -182,14 +184,15 @@ fn fill_bytes(word: &[u8], bytes: &mut [u8]) -> Option<()>
     Some(())
 }
 
-// from low to high bytes
+// from one to high bytes
 #[tactic(auto, unfolding(crate::specs::Reading::read_bytes))]
-pub fn read_bytes(alloc: Global, low: usize, high: usize, word: &[u8]) -> Result<Octets, LineFault>
+pub fn read_bytes(alloc: Global, high: usize, word: &[u8]) -> Result<Octets, LineFault>
     requires { high ≤ 1024 }
-    ensures { Gives result (read_bytes low high word.now) }
+    ensures given { Gives result (read_bytes 1 high word.now) }
+    ensures memory { result ≡ Err NoMemory → ReadsBytes has_bytes (read_bytes 1 high word.now) }
 {
     let count = word.len() / 2;
-    if word.len() % 2 != 0 || count < low || high < count {
+    if word.len() % 2 != 0 || count < 1 || high < count {
         return Err(LineFault::Outside);
     }
     let mut bytes = [0; MOST_BYTES];

@@ -20,7 +20,7 @@ pub enum Line {
 pub enum LineFault {
     /// The bytes are no line of the script's grammar.
     Outside,
-    /// Memory was wanting.
+    /// The bytes are a line, and memory for the bytes that it holds was wanting.
     NoMemory,
 }
 

@@ -1,5 +1,7 @@
 //! Lines behind their first word, one function for each that has more than a session.
-ghost use Rattle.std.specs.Prelude.{◌≡◌};
+ghost use Rattle.std.specs.Prelude.{◌≡◌, Err};
+ghost use Rattle.script_lang.specs.declared.kinds.LineFault.TheVariants.{NoMemory};
+ghost use Rattle.script_lang.specs.Memory.{WantsMemory};
 ghost use Rattle.script_lang.specs.Reading.{read_ask, read_cancel, read_cut, read_fail, read_keep, read_listen, read_only_session, read_press, read_question, read_submit, read_tick, Gives};
 
 use crate::commands::{present, read_command};
@@ -49,7 +51,8 @@ pub fn read_listen(rest: &[u8]) -> Option<Line>
 // a session, a limit of ticks and a command
 #[tactic(auto, unfolding(crate::specs::Reading::read_submit))]
 pub fn read_submit(alloc: Global, rest: &[u8]) -> Result<Line, LineFault>
-    ensures { Gives result (read_submit rest.now) }
+    ensures given { Gives result (read_submit rest.now) }
+    ensures memory { result ≡ Err NoMemory → WantsMemory (read_submit rest.now) }
 {
     let (word, rest) = present(next_word(rest))?;
     let session = present(read_session(word))?;

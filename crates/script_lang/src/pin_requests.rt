@@ -1,5 +1,7 @@
 //! PIN commands behind their first word, to the line's end.
-ghost use Rattle.std.specs.Prelude.{◌≡◌};
+ghost use Rattle.std.specs.Prelude.{◌≡◌, Err};
+ghost use Rattle.script_lang.specs.declared.kinds.LineFault.TheVariants.{NoMemory};
+ghost use Rattle.script_lang.specs.Memory.{extra_holds_bytes, ReadsBytes};
 ghost use Rattle.script_lang.specs.Reading.{read_check, read_extra, read_pinblock, Gives};
 
 use crate::commands::present;
@@ -77,15 +79,16 @@ pub fn read_check(rest: &[u8]) -> Option<CheckRequest>
 // another PIN command: its kind, its key and its bytes
 #[tactic(auto, unfolding(crate::specs::Reading::read_extra))]
 pub fn read_extra(alloc: Global, rest: &[u8]) -> Result<ExtraRequest, LineFault>
-    ensures { Gives result (read_extra rest.now) }
+    ensures given { Gives result (read_extra rest.now) }
+    ensures memory { result ≡ Err NoMemory → ReadsBytes extra_holds_bytes (read_extra rest.now) }
 {
     let (word, rest) = present(next_word(rest))?;
     let kind = present(read_number(0, 255, word))?;
     let (word, rest) = present(next_word(rest))?;
     let key = present(read_name(word))?;
     let (word, rest) = present(next_word(rest))?;
-    let body = read_body(alloc, word)?;
     present(ended(rest))?;
+    let body = read_body(alloc, word)?;
     Ok(ExtraRequest {
         kind: kind as u8,
         key,

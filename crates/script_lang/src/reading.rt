@@ -3,7 +3,8 @@ ghost use Rattle.std.specs.Prelude.{◌≡◌, IfOk, Err};
 ghost use Rattle.script_lang.specs.Reading.{line_after, line_of, Gives};
 ghost use Rattle.script_lang.specs.Spelling.{is_blank, is_keep, is_spelled, is_strike, Spells};
 ghost use Rattle.script_lang.specs.declared.kinds.Line.{Line};
-ghost use Rattle.script_lang.specs.declared.kinds.LineFault.TheVariants.{Outside};
+ghost use Rattle.script_lang.specs.declared.kinds.LineFault.TheVariants.{NoMemory, Outside};
+ghost use Rattle.script_lang.specs.Memory.{WantsMemory};
 
 use crate::commands::{at_end, present};
 use crate::cutting::word_len;
@@ -22,7 +23,8 @@ const LONGEST_LINE: usize = 4096;
 
 // the line that begins with this verb
 fn read_row(alloc: Global, verb: LineVerb, rest: &[u8]) -> Result<Line, LineFault>
-    ensures { Gives result (line_after verb rest.now) }
+    ensures given { Gives result (line_after verb rest.now) }
+    ensures memory { result ≡ Err NoMemory → WantsMemory (line_after verb rest.now) }
 {
     match verb {
         LineVerb::Auto => at_end(rest, Line::Auto),
@@ -89,7 +91,8 @@ fn is_spelled(line: &Line) -> bool
 // the line that these bytes spell, if its step is one that lines spell
 #[tactic(auto, unfolding(crate::specs::Reading::line_of))]
 fn read_spelled(alloc: Global, bytes: &[u8]) -> Result<Line, LineFault>
-    ensures { Gives result (line_of bytes.now) }
+    ensures given { Gives result (line_of bytes.now) }
+    ensures memory { result ≡ Err NoMemory → WantsMemory (line_of bytes.now) }
 {
     if is_blank(bytes) {
         return Ok(Line::Blank);
@@ -104,12 +107,14 @@ fn read_spelled(alloc: Global, bytes: &[u8]) -> Result<Line, LineFault>
     }
 }
 
-/// What a line says, its bytes without the line feed. `Outside` exactly where no line is spelled so.
+/// What a line says, its bytes without the line feed. `Outside` exactly where no line is spelled so,
+/// and `NoMemory` for a line that holds bytes alone.
 /// It takes time in proportion to the line's length, and memory for the bytes of an import, of a crypt command or of another PIN command alone.
 pub fn read_line(alloc: Global, line: &[u8]) -> Result<Line, LineFault>
     ensures found { IfOk result (λ l. Spells line.now l) }
     ensures outside { result ≡ Err Outside → (l : Line) → Spells line.now l → ⊥ }
     ensures exact { Gives result (line_of line.now) }
+    ensures memory { result ≡ Err NoMemory → WantsMemory (line_of line.now) }
 {
     read_spelled(alloc, line)
 }
