@@ -7,7 +7,7 @@ use std::process::ExitCode;
 use std::{env, io};
 
 /// What is printed on standard error where the words are no form.
-const USAGE: &str = "usage: pinpad_cli replay [store PATH] [seed HEX]";
+const USAGE: &str = "usage: pinpad_cli replay [store PATH] [seed HEX] | gen N";
 
 /// The words of the command line without the program's name. A word that is no text is of no form.
 fn command_words(rt: &HostRuntime) -> io::Result<Vec<String>> {
@@ -37,7 +37,7 @@ fn main(rt: HostRuntime) -> ExitCode {
     }
 }
 
-// Replays the script of standard input over this disk, and prints its transcript.
+// Replays the script of standard input, or a generated one, over this disk, and prints what the words ask for.
 fn replay<D: ArmDisk>(rt: &HostRuntime, words: &[String], disk: &mut D) -> ExitCode {
     let mut source = StdSource::new(rt);
     let mut sink = Counted::new(StdSink::new(rt));

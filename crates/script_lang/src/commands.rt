@@ -138,7 +138,7 @@ fn read_import(alloc: Global, rest: &[u8]) -> Result<ImportRequest, LineFault>
     read_import_row(alloc, name, kind, rest)
 }
 
-// what is to be encrypted, decrypted or authenticated, and how
+// what is to be encrypted, decrypted or authenticated, and how; its bytes are decoded last
 #[tactic(auto, unfolding(crate::specs::Reading::read_crypt))]
 fn read_crypt(alloc: Global, rest: &[u8]) -> Result<CryptRequest, LineFault>
     ensures given { Gives result (read_crypt rest.now) }

@@ -40,7 +40,7 @@ fn has_plain_front(word: &[u8]) -> bool
     }
 }
 
-// a number from low to high, without a leading zero
+/// The number from `low` to `high` that these decimal digits are, without a leading zero. None where they are no such number.
 #[tactic(auto, unfolding(crate::specs::Reading::read_number))]
 pub fn read_number(low: u32, high: u32, word: &[u8]) -> Option<u32>
     ensures exact { result ≡ read_number low high word.now }

@@ -23,6 +23,7 @@ mod verb_fields;
 mod word_fields;
 pub mod writing;
 
+pub use fields::read_number;
 pub use kinds::{Line, LineFault};
 pub use laws::{lines_are_cut_one_by_one, spelled_again};
 pub use line_reader::{LineReader, Taken};

@@ -76,7 +76,7 @@ pub fn read_check(rest: &[u8]) -> Option<CheckRequest>
     })
 }
 
-// another PIN command: its kind, its key and its bytes
+// another PIN command: its kind, its key and its bytes, which are decoded once the line is at its end
 #[tactic(auto, unfolding(crate::specs::Reading::read_extra))]
 pub fn read_extra(alloc: Global, rest: &[u8]) -> Result<ExtraRequest, LineFault>
     ensures given { Gives result (read_extra rest.now) }
