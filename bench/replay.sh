@@ -1,7 +1,8 @@
 #!/usr/bin/env bash
 # Times the program on large scripts, each of a tenth and of the whole of the greatest number of lines, 65,536: one long
 # entry; many short ones; the shortest lines, which print nothing; comments of 4,096 bytes, the longest lines; CRYPT of
-# 1,024 bytes each; and sixteen sessions that submit, lock, cancel and let time go by. The transcript goes to a file.
+# 1,024 bytes each; and sixteen sessions that submit, lock, cancel and let time go by. The transcript goes to a file. Then
+# the generated runs of 500 and of 5,000 rounds.
 #
 # The program is the first argument, or the one that ./replay --proved builds. MOST is another number of lines.
 # It needs python3. No clause tells the time, so this stands outside the gate.
@@ -78,13 +79,13 @@ sessions() {
     }'
 }
 
-# Runs the program five times on a script, and prints the least seconds and the peak of memory in KB, which is never
+# timed SCRIPT WORD..: runs the program five times with these words on a script, and prints the least seconds and the peak of memory in KB, which is never
 # less than that of the process here that starts it.
 timed() {
-    python3 - "$program" "$1" "$work/transcript" <<'PYTHON'
+    python3 - "$program" "$1" "$work/transcript" "${@:2}" <<'PYTHON'
 import os, sys, time
 
-program, script, transcript = sys.argv[1:]
+program, script, transcript, *words = sys.argv[1:]
 seconds, peak = [], []
 for _ in range(5):
     streams = [
@@ -92,7 +93,7 @@ for _ in range(5):
         (os.POSIX_SPAWN_OPEN, 1, transcript, os.O_WRONLY | os.O_CREAT | os.O_TRUNC, 0o600),
     ]
     begun = time.monotonic()
-    child = os.posix_spawn(program, [program, "replay"], os.environ, file_actions=streams)
+    child = os.posix_spawn(program, [program, *words], os.environ, file_actions=streams)
     _, status, used = os.wait4(child, 0)
     seconds.append(time.monotonic() - begun)
     peak.append(used.ru_maxrss)
@@ -107,7 +108,7 @@ for kind in long_entry short_entries short_lines long_lines long_messages sessio
     each=()
     for most in $((MOST / 10)) "$MOST"; do
         "$kind" "$most" >"$work/script"
-        measured=$(timed "$work/script")
+        measured=$(timed "$work/script" replay)
         read -r seconds peak <<<"$measured"
         lines=$(wc -l <"$work/script")
         printf '%-14s %6d lines %10d bytes %8s s %8d KB\n' "$kind" "$lines" "$(wc -c <"$work/script")" "$seconds" "$peak"
@@ -116,4 +117,13 @@ for kind in long_entry short_entries short_lines long_lines long_messages sessio
     done
     awk -v kind="$kind" -v small="${taken[0]}" -v large="${taken[1]}" -v one="${each[0]}" -v other="${each[1]}" \
         'BEGIN { printf "%-14s the large one takes %.1f times as long, %s and %s microseconds a line\n", kind, large / small, one, other }'
+done
+
+for rounds in 500 5000; do
+    measured=$(timed /dev/null gen "$rounds")
+    read -r seconds peak <<<"$measured"
+    read -r _ _ _ steps _ <"$work/transcript"
+    awk -v rounds="$rounds" -v seconds="$seconds" -v peak="$peak" -v steps="$steps" 'BEGIN {
+        printf "gen %-10d %6d steps %8s s %8d KB, %.2f microseconds a step\n", rounds, steps, seconds, peak, 1e6 * seconds / steps
+    }'
 done

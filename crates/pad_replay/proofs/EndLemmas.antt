@@ -1,8 +1,6 @@
 -- How the run of a script ends.
 use Rattle.std.proofs.Common.{ap, append-nil, append_assoc, arith, length-append, refl, subst, sym, ◌∙◌}
-use Rattle.std.proofs.lemmas.List.{take-append-le}
-use Rattle.std.proofs.Math.Seq.{take-length}
-use Rattle.std.specs.Prelude.{Bool, IfSome, List, None, Option, Some, [], false, length, take, true, ℕ, ◌+◌, ◌++◌, ◌∷◌, ◌≡◌, ◌≢◌, ◌≤◌}
+use Rattle.std.specs.Prelude.{Bool, IfSome, List, None, Option, Some, [], false, length, take, true, ℕ, ◌+◌, ◌++◌, ◌∷◌, ◌≡◌, ◌≢◌}
 use Rattle.disk_core.specs.DiskStates.{DiskState}
 use Rattle.disk_core.specs.Streams.{GivesFront, with_more}
 use Rattle.flat_machine.specs.Deeds.{Deed, DueFrom, acts_in}
@@ -12,14 +10,15 @@ use Rattle.flat_machine.specs.Twins.{Twins}
 use Rattle.pad_steps.specs.Lines.{Line as PrintedLine}
 use Rattle.pad_steps.specs.declared.steps.DiskWord.{DiskWord}
 use Rattle.pad_replay.proofs.DiskLemmas.{Unloaded, runs-on}
-use Rattle.pad_replay.proofs.RunLemmas.{Joins, after_all, acts_in-append, OnDisk, broke-none, broke-then, front-whole, play_then-append, ran-none, ran-then, took-then, with_more-none, with_more-with_more, wordless-mark, wordless-play}
+use Rattle.pad_replay.proofs.LineLemmas.{broke-many, front-many, front-taken, front-whole-words, words-all}
+use Rattle.pad_replay.proofs.RunLemmas.{Joins, after_all, acts_in-append, OnDisk, broke-none, broke-then, front-whole, play_then-append, ran-none, ran-then, with_more-none, with_more-with_more, wordless-mark, wordless-play}
 use Rattle.pad_machine.specs.Stands.{StandsFor}
 use Rattle.pad_replay.proofs.ScriptLemmas.{feeds_in-append, some-same}
 use Rattle.pad_replay.specs.Endings.{RunEnds}
 use Rattle.pad_replay.specs.NextLines.{IsFirstLine}
 use Rattle.pad_replay.specs.Outcomes.{EndsUnread, GaveFront, RanAll, RanSoMany}
-use Rattle.pad_replay.specs.Parts.{BreaksPart, BrokeOff, Progress, Ran, RanLines, RunsOnDisk, RunsPart, TakesPart}
-use Rattle.pad_replay.specs.Runs.{Played, Player, deeds_of, line_then, mark_in, mark_of, play, play_any, play_end, play_mark, play_script, play_then, played_by, played_text, program_setting, steps_of, text_from, text_of}
+use Rattle.pad_replay.specs.Parts.{BreaksPart, BrokeOff, Progress, Ran, RanFront, RanLines, RunsOnDisk, RunsPart, TakesPart}
+use Rattle.pad_replay.specs.Runs.{Played, Player, deeds_of, line_then, mark_in, mark_of, play, play_end, play_mark, play_script, play_then, played_by, played_text, program_setting, steps_of, text_from, text_of}
 use Rattle.pad_replay.specs.Script.{IsTaken, ScriptLines, feeds_in, lines_before, lines_behind, lines_of}
 use Rattle.pad_replay.specs.declared.script_run.Course.{Course}
 use Rattle.pad_replay.specs.declared.script_run.End.{End}
@@ -31,15 +30,6 @@ use Rattle.transcript.specs.PrintedLines.{lines_text, mark_text}
 -- twins print alike
 abbrev pub Alike : List ℕ → Type 0
 Alike seed = (acts twin : List Act) → Twins (program_setting seed) opening acts twin → lines_from (program_setting seed) opening twin ≡ lines_from (program_setting seed) opening acts
-
--- lines in front of more lines
-take-front : (lines more : List Line) (count : ℕ) → length lines ≡ count → take count (lines ++ more) ≡ lines
-take-front lines more count many =
-    ap (λ (n : ℕ). take n (lines ++ more)) (sym many) ∙ take-append-le (length lines) lines more (omega arith) ∙ take-length lines
-
--- words behind none
-words-all : (before after : Progress) (more : List DiskWord) → before.words ≡ [] → after.words ≡ before.words ++ more → after.words ≡ more
-words-all before after more fresh told = told ∙ ap (λ (words : List DiskWord). words ++ more) fresh
 
 -- a whole run, and a mark given behind it
 pub record AllPlayed (seed script : List ℕ) (before after : Progress) (mark : List ℕ) : Type 0 where
@@ -102,24 +92,20 @@ module _ (seed script : List ℕ) (count : ℕ) (rest : List ℕ) (before now : 
   pub whole-ran : Ran seed opening (play_script seed (lines_of script)) Left before now
   whole-ran = subst (λ (player : Player). Ran seed opening player Left before now) (sym whole-is) (ranl.ran Left)
 
-  front-lines : (more : List Line) → lines_of script ≡ lines_before ranl.lines (record { lines = more; bad = (lines_behind count rest).bad }) → take count (lines_of script).lines ≡ ranl.lines
-  front-lines more are = ap (λ (all : ScriptLines). take count all.lines) are ∙ take-front ranl.lines more count ranl.many
+  -- the lines that were run, in front of those that are left
+  behind-front : RanFront seed (lines_of script).lines (lines_behind count rest).lines count before now
+  behind-front = record { front = ranl.lines; parts = ap (λ (all : ScriptLines). all.lines) ranl.are; many = ranl.many; ran = ranl.ran }
 
-  pub taken-lines : take count (lines_of script).lines ≡ ranl.lines
-  taken-lines = front-lines (lines_behind count rest).lines ranl.are
+  taken-lines : take count (lines_of script).lines ≡ ranl.lines
+  unfolding behind-front
+  taken-lines = front-taken seed (lines_of script).lines (lines_behind count rest).lines count before now fresh behind-front
 
   -- the words are one for each step of these lines
-  pub lines-whole : (play seed (take count (lines_of script).lines) opening now.words).whole ≡ true
-  lines-whole = let ran = ranl.ran play_end in
-      ap (λ (lines : List Line). (play seed lines opening now.words).whole) taken-lines
-      ∙ ap (λ (words : List DiskWord). (play seed ranl.lines opening words).whole) (words-all before now ran.took.more fresh ran.took.told_more ∙ sym (append-nil ran.took.more))
-      ∙ ap (λ (played : Played). played.whole) (ran.took.played [])
+  lines-whole : (play seed (take count (lines_of script).lines) opening now.words).whole ≡ true
+  lines-whole = front-whole-words seed (lines_of script).lines (lines_behind count rest).lines count before now fresh behind-front
 
-  within-lines : count ≤ length (lines_of script).lines
-  within-lines = omega (arith, ranl.many, ap (λ (all : ScriptLines). length all.lines) ranl.are, length-append ranl.lines (lines_behind count rest).lines)
-
-  pub so-many : RanSoMany seed script now.words count
-  so-many = record { within = within-lines; front = now.words; back = []; parts = sym (append-nil now.words); whole = lines-whole; few = λ some. absurd (omega (arith, some)) }
+  pub so-many : RanSoMany seed (lines_of script).lines now.words count
+  so-many = front-many seed (lines_of script).lines (lines_behind count rest).lines count before now fresh behind-front
 
   -- where no line is left, a mark may follow
   pub all-played : (after : Progress) (bad : Option ℕ) → lines_behind count rest ≡ record { lines = []; bad = bad } → after.words ≡ now.words → after.disk ≡ now.disk → after.given ≡ with_more now.given (mark_of bad)
@@ -198,7 +184,7 @@ module _ (seed script : List ℕ) (alike : Alike seed) (count : ℕ) (rest : Lis
       → RunEnds seed script course left before after
   end-whole is at none read told same given =
       let all = all-played seed script count rest before now fresh ranl after None none told same (given ∙ with_more-none now.given) in
-      let so : RanSoMany seed script now.words count = so-many seed script count rest before now fresh ranl in
+      let so : RanSoMany seed (lines_of script).lines now.words count = so-many seed script count rest before now fresh ranl in
       record {
         whole = λ _. record {
           good = ap (λ (lines : ScriptLines). lines.bad) (ranl.are ∙ ap (lines_before ranl.lines) none);
@@ -209,7 +195,7 @@ module _ (seed script : List ℕ) (alike : Alike seed) (count : ℕ) (rest : Lis
         bad_line = λ bad. absurd (cc);
         unread = λ bad. absurd (cc);
         front = all-front seed script alike before after fresh [] all;
-        lines = λ _. subst (λ (n : ℕ). RanSoMany seed script after.words n) (sym at) (subst (λ (words : List DiskWord). RanSoMany seed script words count) (sym told) so);
+        lines = λ _. subst (λ (n : ℕ). RanSoMany seed (lines_of script).lines after.words n) (sym at) (subst (λ (words : List DiskWord). RanSoMany seed (lines_of script).lines words count) (sym told) so);
         on_disk = all-disk seed script alike before after fresh [] unloaded all;
       }
 
@@ -232,7 +218,7 @@ module _ (seed script : List ℕ) (alike : Alike seed) (count : ℕ) (rest : Lis
 
   -- a run that broke off behind these lines
   pub end-broken : (is_taken : Bool) → course.end ≢ ends.Whole → course.end ≢ ends.BadLine → (course.end ≡ ends.SourceFailed → EndsUnread seed script after.words course.line left before.given after.given before.disk after.disk)
-      → BrokeOff seed opening (play_script seed (lines_of script)) is_taken before after → RanSoMany seed script after.words course.line → RunEnds seed script course left before after
+      → BrokeOff seed opening (play_script seed (lines_of script)) is_taken before after → RanSoMany seed (lines_of script).lines after.words course.line → RunEnds seed script course left before after
   end-broken is_taken no_end no_mark unread broke many = record {
     whole = λ is. absurd (no_end is);
     bad_line = λ is. absurd (no_mark is);
@@ -257,7 +243,7 @@ ran-no_line seed script before stands nothing = record {
   lines = [];
   many = refl;
   are = refl;
-  ran = λ others. ran-none seed opening before before others stands refl refl nothing;
+  ran = λ others. ran-none seed opening before before others stands refl refl refl nothing;
 }
 
 module _ (seed script : List ℕ) (count : ℕ) (rest : List ℕ) (line : Line) (still_cut : Option (List ℕ)) (before now after : Progress) (joins : Joins seed opening before.disk now.disk after.disk)
@@ -269,12 +255,6 @@ module _ (seed script : List ℕ) (count : ℕ) (rest : List ℕ) (line : Line) 
 
   more-many : length (ranl.lines ++ line ∷ []) ≡ count + 1
   more-many = omega (arith, length-append ranl.lines (line ∷ []), ranl.many)
-
-  more-taken : take (count + 1) (lines_of script).lines ≡ ranl.lines ++ line ∷ []
-  more-taken = ap (λ (all : ScriptLines). take (count + 1) all.lines) more-lines ∙ take-front (ranl.lines ++ line ∷ []) (lines_behind (count + 1) first.rest).lines (count + 1) more-many
-
-  more-within : count + 1 ≤ length (lines_of script).lines
-  more-within = omega (arith, more-many, ap (λ (all : ScriptLines). length all.lines) more-lines, length-append (ranl.lines ++ line ∷ []) (lines_behind (count + 1) first.rest).lines)
 
   more-played : (others : Player) → play_then seed (ranl.lines ++ line ∷ []) others ≡ play_then seed ranl.lines (line_then seed line others)
   more-played others = play_then-append seed ranl.lines (line ∷ []) others
@@ -292,34 +272,9 @@ module _ (seed script : List ℕ) (count : ℕ) (rest : List ℕ) (line : Line) 
         (ran-then seed opening (play_then seed ranl.lines (line_then seed line others)) (line_then seed line others) others before now after joins (ranl.ran (line_then seed line others)) (λ state stands. runs seed state others stands));
   }
 
-  -- one more line was taken whole
-  line-taken : before.words ≡ [] → TakesPart (λ s. line_then s line) now after → (play seed (take (count + 1) (lines_of script).lines) opening after.words).whole ≡ true
-  line-taken fresh takes =
-      let took = took-then seed opening (play_then seed ranl.lines (line_then seed line play_end)) (line_then seed line play_end) play_end before now after joins (ranl.ran (line_then seed line play_end)).took (λ state stands. takes seed state play_end stands) in
-      ap (λ (lines : List Line). (play seed lines opening after.words).whole) more-taken
-      ∙ ap (λ (player : Player). (player opening after.words).whole) (more-played play_end)
-      ∙ ap (λ (words : List DiskWord). (play_then seed ranl.lines (line_then seed line play_end) opening words).whole) (words-all before after took.more fresh took.told_more ∙ sym (append-nil took.more))
-      ∙ ap (λ (played : Played). played.whole) (took.played [])
-
-  -- the words are too few for one more line
-  line-few : before.words ≡ [] → BreaksPart (λ s. line_then s line) false now after → (play_then seed (take (count + 1) (lines_of script).lines) play_any opening after.words).whole ≡ false
-  line-few fresh breaks =
-      let broke = broke-then seed opening (play_then seed ranl.lines (line_then seed line play_any)) (line_then seed line play_any) false before now after joins (ranl.ran (line_then seed line play_any)) (λ state stands. breaks seed state play_any (λ later. refl) stands) in
-      ap (λ (lines : List Line). (play_then seed lines play_any opening after.words).whole) more-taken
-      ∙ ap (λ (player : Player). (player opening after.words).whole) (more-played play_any)
-      ∙ ap (λ (words : List DiskWord). (play_then seed ranl.lines (line_then seed line play_any) opening words).whole) (words-all before after broke.more fresh broke.told_more)
-      ∙ broke.few refl
-
-  line-many : (is_taken : Bool) (at : ℕ) → before.words ≡ [] → (is_taken ≡ true → at ≡ count + 1) → (is_taken ≡ false → at ≡ count)
-      → BreaksPart (λ s. line_then s line) is_taken now after → (is_taken ≡ true → TakesPart (λ s. line_then s line) now after) → ((state : Flat) → StandsFor now.pad seed state → (more : List DiskWord) × (after.words ≡ now.words ++ more))
-      → RanSoMany seed script after.words at
-  line-many true at fresh if_taken if_not breaks takes told =
-      subst (λ (n : ℕ). RanSoMany seed script after.words n) (sym (if_taken refl))
-      (record { within = more-within; front = after.words; back = []; parts = sym (append-nil after.words); whole = line-taken fresh (takes refl); few = λ some. absurd (omega (arith, some)) })
-  line-many false at fresh if_taken if_not breaks takes told =
-      let more = told (after_all seed opening (ranl.ran play_end).took.done) (ranl.ran play_end).took.stands in
-      subst (λ (n : ℕ). RanSoMany seed script after.words n) (sym (if_not refl))
-      (record { within = within-lines seed script count rest before now fresh ranl; front = now.words; back = more.0; parts = more.1; whole = lines-whole seed script count rest before now fresh ranl; few = λ some. line-few fresh breaks })
+  -- this line comes first of those that are left
+  behind-line : RanFront seed (lines_of script).lines (line ∷ (lines_behind (count + 1) first.rest).lines) count before now
+  behind-line = record { front = ranl.lines; parts = ap (λ (all : ScriptLines). all.lines) (ranl.are ∙ ap (lines_before ranl.lines) first.are); many = ranl.many; ran = ranl.ran }
 
   -- a run broke off in one more line
   pub ends-in-line : (is_taken : Bool) (alike : Alike seed) (course : Course) (left : Option (List ℕ)) → before.words ≡ [] → Unloaded seed before.disk after.disk
@@ -333,15 +288,14 @@ module _ (seed script : List ℕ) (count : ℕ) (rest : List ℕ) (line : Line) 
       (λ state stands. subst (λ (all : ScriptLines). BrokeOff seed state (play_script seed all) is_taken now after) (sym first.are)
       (breaks seed state (play_script seed behind) (wordless-play seed behind.lines (play_mark (mark_of behind.bad)) (wordless-mark (mark_of behind.bad))) stands)) in
       end-broken seed script alike count rest before now after fresh ranl course left unloaded is_taken no_end no_mark (λ is. absurd (no_fault is)) broke
-      (line-many is_taken course.line fresh if_taken if_not breaks takes
-      (λ state stands. let b = breaks seed state play_end (wordless-mark []) stands in (b.more, b.told_more)))
+      (broke-many seed (lines_of script).lines line (lines_behind (count + 1) first.rest).lines count before now after joins behind-line is_taken course.line fresh if_taken if_not breaks takes)
 
 module _ (seed script : List ℕ) (count : ℕ) (rest : List ℕ) (before now after : Progress) (joins : Joins seed opening before.disk now.disk after.disk) (ranl : RanLines seed script count rest before now)
     (alike : Alike seed) (course : Course) (left : Option (List ℕ)) (fresh : before.words ≡ []) (unloaded : Unloaded seed before.disk after.disk) (told : after.words ≡ now.words) (same : after.disk ≡ now.disk)
     (nothing : (state : Flat) → OnDisk seed state [] now.disk after.disk) where
-  so-many-after : course.line ≡ count → RanSoMany seed script after.words course.line
-  so-many-after at = subst (λ (n : ℕ). RanSoMany seed script after.words n) (sym at)
-      (subst (λ (words : List DiskWord). RanSoMany seed script words count) (sym told) (so-many seed script count rest before now fresh ranl))
+  so-many-after : course.line ≡ count → RanSoMany seed (lines_of script).lines after.words course.line
+  so-many-after at = subst (λ (n : ℕ). RanSoMany seed (lines_of script).lines after.words n) (sym at)
+      (subst (λ (words : List DiskWord). RanSoMany seed (lines_of script).lines words count) (sym told) (so-many seed script count rest before now fresh ranl))
 
   mark-lost : course.end ≢ ends.BadLine → lines_behind count rest ≡ record { lines = []; bad = Some (count + 1) } → course.end ≢ ends.Whole → course.end ≢ ends.SourceFailed
       → (course.end ≢ ends.BadLine → (course.line ≡ count) × GivesFront now.given after.given (mark_text (count + 1)))
@@ -385,7 +339,7 @@ module _ (seed script : List ℕ) (count : ℕ) (rest : List ℕ) (before now : 
       end-broken seed script alike count rest before now now fresh ranl course left unloaded true no_end no_mark
       (λ failed. subst (λ (n : ℕ). EndsUnread seed script now.words n left before.given now.given before.disk now.disk) (sym at) (ends-unread seed script count rest before now fresh ranl left (taken failed)))
       (unread-broke seed script count rest before now fresh ranl nothing joins)
-      (subst (λ (n : ℕ). RanSoMany seed script now.words n) (sym at) (so-many seed script count rest before now fresh ranl))
+      (subst (λ (n : ℕ). RanSoMany seed (lines_of script).lines now.words n) (sym at) (so-many seed script count rest before now fresh ranl))
 
 -- where nothing was run the disk is as it was
 module _ (seed : List ℕ) (s : DiskState) (unloaded : Unloaded seed s s) (nothing : OnDisk seed opening [] s s) where

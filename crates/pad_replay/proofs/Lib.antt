@@ -1,3 +1,7 @@
+pub mod RoundLemmas
+pub mod LineLemmas
+pub mod GeneratedLemmas
+pub mod TallyLemmas
 pub mod RunLemmas
 pub mod TieLemmas
 pub mod DiskLemmas

@@ -13,7 +13,7 @@ use Rattle.flat_machine.specs.DiskRuns.{RunOnDisk}
 use Rattle.flat_machine.specs.DiskSteps.{StepOnDisk}
 use Rattle.flat_machine.specs.KeyLayout.{key_layout}
 use Rattle.flat_machine.specs.Kept.{Kept}
-use Rattle.flat_machine.specs.Machine.{Act, line_of, is_masked, next, next_work}
+use Rattle.flat_machine.specs.Machine.{Act, line_of, is_masked, lines_from, next, next_work, shown_step}
 use Rattle.flat_machine.specs.Power.{word_fate}
 use Rattle.flat_machine.specs.State.{Flat}
 use Rattle.pad_machine.specs.Runs.{IsMachineStep, PadStepOnDisk}
@@ -25,9 +25,11 @@ use Rattle.pad_steps.specs.declared.steps.Fate.{Fate}
 use Rattle.pad_steps.specs.declared.steps.Step.{Step}
 use Rattle.des_core.specs.TripleDes.{tdea_bytes}
 use Rattle.local_check.specs.StandardWork.{standard_rules}
+use Rattle.pad_replay.proofs.TallyLemmas.{tally-then}
 use Rattle.pad_replay.proofs.TieLemmas.{stood-step}
 use Rattle.pad_replay.specs.Parts.{BrokeOff, Progress, Ran, Took}
 use Rattle.pad_replay.specs.Runs.{Played, Player, Wordless, arm_then, auto_then, line_then, play_mark, play_then, played_text, program_setting, step_then, text_from, unless_due, with_deeds}
+use Rattle.pad_replay.specs.Tallies.{tally_after}
 use Rattle.script_lang.specs.Spelling.{is_spelled, is_strike}
 use Rattle.script_lang.specs.declared.kinds.Line.{Line}
 use Rattle.transcript.specs.PrintedLines.{line_of_step, line_text}
@@ -169,6 +171,8 @@ module _ (seed : List ℕ) (start : Flat) (whole between rest : Player) (one two
         ∙ ap (λ (deeds : List Deed). record { deeds = deeds; whole = (rest (after_all seed (after_all seed start first.done) second.done) tail).whole; mark = (rest (after_all seed (after_all seed start first.done) second.done) tail).mark })
         (sym (append_assoc first.done second.done (rest (after_all seed (after_all seed start first.done) second.done) tail).deeds))
         ∙ ap (λ (state : Flat). with_deeds (first.done ++ second.done) (rest state tail)) (after-append seed start first.done second.done);
+    tally = tally-then seed start (acts_in first.done) (acts_in second.done) one.tally two.tally three.tally first.tally second.tally
+        ∙ ap (λ (acts : List Act). tally_after one.tally (lines_from (program_setting seed) start acts)) (sym (acts_in-append first.done second.done));
     on_disk = joins first.done second.done first.on_disk second.on_disk;
   }
 
@@ -218,11 +222,11 @@ module _ (seed : List ℕ) (start : Flat) (whole between : Player) (is_taken : B
 
 module _ (seed : List ℕ) (start : Flat) (before after : Progress) where
   -- nothing was played: the words are told already, or none were told
-  abbrev pub took-none : (player : Player) → StandsFor after.pad seed start → after.words ≡ before.words → OnDisk seed start [] before.disk after.disk → Took seed start player player before after
-  took-none player stands told nothing = record { more = []; told_more = told ∙ sym (append-nil before.words); done = []; stands = stands; played = λ tail. refl; on_disk = nothing }
+  abbrev pub took-none : (player : Player) → StandsFor after.pad seed start → after.words ≡ before.words → after.tally ≡ before.tally → OnDisk seed start [] before.disk after.disk → Took seed start player player before after
+  took-none player stands told counted nothing = record { more = []; told_more = told ∙ sym (append-nil before.words); done = []; stands = stands; played = λ tail. refl; tally = counted; on_disk = nothing }
 
-  pub ran-none : (player : Player) → StandsFor after.pad seed start → after.words ≡ before.words → after.given ≡ before.given → OnDisk seed start [] before.disk after.disk → Ran seed start player player before after
-  ran-none player stands told given nothing = record { took = took-none player stands told nothing; text = []; printed = given ∙ with_more-none before.given; spelled = λ others. refl }
+  pub ran-none : (player : Player) → StandsFor after.pad seed start → after.words ≡ before.words → after.tally ≡ before.tally → after.given ≡ before.given → OnDisk seed start [] before.disk after.disk → Ran seed start player player before after
+  ran-none player stands told counted given nothing = record { took = took-none player stands told counted nothing; text = []; printed = given ∙ with_more-none before.given; spelled = λ others. refl }
 
   pub broke-none : (player : Player) (is_taken : Bool) → Wordless player → (is_taken ≡ false → (player start []).whole ≡ false) → after.words ≡ before.words → after.given ≡ before.given → OnDisk seed start [] before.disk after.disk → BrokeOff seed start player is_taken before after
   broke-none player is_taken none few told given nothing = record {
@@ -238,10 +242,10 @@ module _ (seed : List ℕ) (start : Flat) (before after : Progress) where
   }
 
   -- a call was armed
-  pub ran-arm : (call : ℕ) (strike : Strike) (rest : Player) → StandsFor after.pad seed start → after.words ≡ before.words → after.given ≡ before.given → OnDisk seed start (Arms call strike ∷ []) before.disk after.disk
+  pub ran-arm : (call : ℕ) (strike : Strike) (rest : Player) → StandsFor after.pad seed start → after.words ≡ before.words → after.tally ≡ before.tally → after.given ≡ before.given → OnDisk seed start (Arms call strike ∷ []) before.disk after.disk
       → Ran seed start (arm_then call strike rest) rest before after
-  ran-arm call strike rest stands told given on = record {
-    took = record { more = []; told_more = told ∙ sym (append-nil before.words); done = Arms call strike ∷ []; stands = stands; played = λ tail. refl; on_disk = on };
+  ran-arm call strike rest stands told counted given on = record {
+    took = record { more = []; told_more = told ∙ sym (append-nil before.words); done = Arms call strike ∷ []; stands = stands; played = λ tail. refl; tally = counted; on_disk = on };
     text = [];
     printed = given ∙ with_more-none before.given;
     spelled = λ others. refl;
@@ -251,11 +255,12 @@ module _ (seed : List ℕ) (start : Flat) (before after : Progress) where
   pub record StepTaken (step : Step) (word : DiskWord) (text : List ℕ) : Type 0 where
     pub stands : StandsFor after.pad seed (next (program_setting seed) start step word).state
     pub told : after.words ≡ before.words ++ word ∷ []
+    pub tally : after.tally ≡ tally_after before.tally (line_of (program_setting seed) start (record { step = step; word = word }) ∷ [])
     pub spelled : text ≡ line_text (line_of (program_setting seed) start (record { step = step; word = word }))
     pub on_disk : OnDisk seed start (Takes (record { step = step; word = word }) ∷ []) before.disk after.disk
 
   abbrev pub took-step : (step : Step) (word : DiskWord) (text : List ℕ) (rest : Player) → StepTaken step word text → Took seed start (step_then seed step rest) rest before after
-  took-step step word text rest taken = record { more = word ∷ []; told_more = taken.told; done = Takes (record { step = step; word = word }) ∷ []; stands = taken.stands; played = λ tail. refl; on_disk = taken.on_disk }
+  took-step step word text rest taken = record { more = word ∷ []; told_more = taken.told; done = Takes (record { step = step; word = word }) ∷ []; stands = taken.stands; played = λ tail. refl; tally = taken.tally; on_disk = taken.on_disk }
 
   pub ran-step : (step : Step) (word : DiskWord) (text : List ℕ) (rest : Player) → StepTaken step word text → after.given ≡ with_more before.given text → Ran seed start (step_then seed step rest) rest before after
   ran-step step word text rest taken printed = record {
@@ -285,7 +290,7 @@ module _ (seed : List ℕ) (start : Flat) (before after : Progress) where
 
   -- where another player plays the same from there
   abbrev pub took-as : (one two rest : Player) → Took seed start one rest before after → ((ws : List DiskWord) → two start ws ≡ one start ws) → Took seed start two rest before after
-  took-as one two rest took same = record { more = took.more; told_more = took.told_more; done = took.done; stands = took.stands; played = λ tail. same (took.more ++ tail) ∙ took.played tail; on_disk = took.on_disk }
+  took-as one two rest took same = record { more = took.more; told_more = took.told_more; done = took.done; stands = took.stands; played = λ tail. same (took.more ++ tail) ∙ took.played tail; tally = took.tally; on_disk = took.on_disk }
 
   pub ran-as : (one two rest : Player) → Ran seed start one rest before after → ((ws : List DiskWord) → two start ws ≡ one start ws) → Ran seed start two rest before after
   ran-as one two rest ran same = record { took = took-as one two rest ran.took same; text = ran.text; printed = ran.printed; spelled = ran.spelled }
@@ -305,7 +310,7 @@ module _ (seed : List ℕ) (start : Flat) (before after : Progress) where
 
   -- where another player plays the same behind it
   abbrev pub took-over : (whole one two : Player) → Took seed start whole one before after → ((later : Flat) (ws : List DiskWord) → StandsFor after.pad seed later → one later ws ≡ two later ws) → Took seed start whole two before after
-  took-over whole one two took same = record { more = took.more; told_more = took.told_more; done = took.done; stands = took.stands; played = λ tail. took.played tail ∙ ap (with_deeds took.done) (same (after_all seed start took.done) tail took.stands); on_disk = took.on_disk }
+  took-over whole one two took same = record { more = took.more; told_more = took.told_more; done = took.done; stands = took.stands; played = λ tail. took.played tail ∙ ap (with_deeds took.done) (same (after_all seed start took.done) tail took.stands); tally = took.tally; on_disk = took.on_disk }
 
   pub ran-over : (whole one two : Player) → Ran seed start whole one before after → ((later : Flat) (ws : List DiskWord) → StandsFor after.pad seed later → one later ws ≡ two later ws) → Ran seed start whole two before after
   ran-over whole one two ran same = record { took = took-over whole one two ran.took same; text = ran.text; printed = ran.printed; spelled = ran.spelled }
@@ -333,10 +338,14 @@ pub step-taken : (seed : List ℕ) (start : Flat) (before after : Progress) (ste
     → (StepOnDisk key_layout (program_setting seed) start.shared (next (program_setting seed) start step stepped.word).state.shared step stepped.word before.disk after.disk
     → OnDisk seed start (Takes (record { step = step; word = stepped.word }) ∷ []) before.disk after.disk)
     → after.words ≡ before.words ++ stepped.word ∷ []
+    → ((shown : Option Step) (fate : Option Fate) → after.tally ≡ tally_after before.tally (record { shown = shown; word = stepped.word; fate = fate; outs = outs } ∷ []))
     → StepTaken seed start before after step stepped.word (line_text (line_of_step step hides stepped.word stepped.fate outs))
-step-taken seed start before after step stepped hides none outs stands machine empty masked on joined told = record {
+step-taken seed start before after step stepped hides none outs stands machine empty masked on joined told counted = record {
   stands = machine.stands;
   told = told;
+  tally = counted (shown_step start.shared step) (word_fate start.shared stepped.word)
+      ∙ ap (λ (said : List Out). tally_after before.tally (record { shown = shown_step start.shared step; word = stepped.word; fate = word_fate start.shared stepped.word; outs = said } ∷ []))
+      (machine.outs ∙ ap (λ (first : List Out). first ++ (next (program_setting seed) start step stepped.word).outs) empty);
   spelled = line_of_step-is seed start step stepped.word stepped.fate hides outs machine.fate masked
       (machine.outs ∙ ap (λ (first : List Out). first ++ (next (program_setting seed) start step stepped.word).outs) empty);
   on_disk = joined (stood-step (standard_rules tdea_bytes) seed start (next (program_setting seed) start step stepped.word).state before.pad after.pad step stepped.word before.disk after.disk stands machine.stands on);

@@ -1,9 +1,13 @@
 pub mod Asked
 pub mod CommandLine
 pub mod Endings
+pub mod Generated
+pub mod Generators
+pub mod Kinds
 pub mod NextLines
 pub mod Outcomes
 pub mod Parts
 pub mod Replays
 pub mod Runs
 pub mod Script
+pub mod Tallies

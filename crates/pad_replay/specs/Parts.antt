@@ -5,29 +5,33 @@ use Rattle.flat_machine.specs.Deeds.{CalmFrom, Deed, FitsDeeds, acts_in, after_d
 use Rattle.flat_machine.specs.DiskRuns.{ComeFromOne, RoseBy, RunOnDisk}
 use Rattle.flat_machine.specs.DiskSteps.{ShowsKeys}
 use Rattle.flat_machine.specs.KeyLayout.{key_layout}
-use Rattle.flat_machine.specs.Machine.{Act}
+use Rattle.flat_machine.specs.Machine.{Act, lines_from}
 use Rattle.flat_machine.specs.State.{Flat, is_off, opening}
 use Rattle.pad_machine.specs.Stands.{PadState, StandsFor}
 use Rattle.pad_steps.specs.declared.steps.DiskWord.{DiskWord}
 use Rattle.pad_replay.specs.Runs.{Player, Wordless, play_then, played_text, program_setting, text_from, with_deeds}
 use Rattle.pad_replay.specs.Script.{feeds_in, lines_before, lines_behind, lines_of}
+use Rattle.pad_replay.specs.Tallies.{tally_after}
+use Rattle.pad_replay.specs.declared.tally.Tally.{Tally}
 use Rattle.script_lang.specs.declared.kinds.Line.{Line}
 use Rattle.std.specs.Prelude.{Bool, IfSome, IsTrue, List, Option, [], false, is_some, length, ℕ, ◌++◌, ◌≡◌}
 
--- How far a replay is: the pad, the words that the disk said, what the sink was given, and the disk.
+-- How far a replay is: the pad, the words that the disk said, what was counted, what the sink was given, and the disk.
 pub record Progress : Type 1 where
   pub pad : PadState
   pub words : List DiskWord
+  pub tally : Tally
   pub given : Option (List ℕ)
   pub disk : DiskState
 
--- From a state the machine took the front of a whole over a disk: it stands for the state after what it did, a rest is left to play, and what it did is a run on the disk.
+-- From a state the machine took the front of a whole over a disk: it stands for the state after what it did, a rest is left to play, and what it did is a run on the disk, and was counted.
 pub record Took (seed : List ℕ) (start : Flat) (whole rest : Player) (before after : Progress) : Type 0 where
   pub more : List DiskWord
   pub told_more : after.words ≡ before.words ++ more
   pub done : List Deed
   pub stands : StandsFor after.pad seed (after_deeds (program_setting seed) start done)
   pub played : (tail : List DiskWord) → whole start (more ++ tail) ≡ with_deeds done (rest (after_deeds (program_setting seed) start done) tail)
+  pub tally : after.tally ≡ tally_after before.tally (lines_from (program_setting seed) start (acts_in done))
   pub on_disk : RunOnDisk key_layout (program_setting seed) start done before.disk after.disk
 
 -- From a state the machine took the front of a whole over a disk, and all of its text was given.
@@ -70,6 +74,13 @@ pub record RanLines (seed script : List ℕ) (count : ℕ) (rest : List ℕ) (be
   pub many : length lines ≡ count
   pub are : lines_of script ≡ lines_before lines (lines_behind count rest)
   pub ran : (others : Player) → Ran seed opening (play_then seed lines others) others before after
+
+-- A run came behind these lines of others: those that are left are still to be played.
+pub record RanFront (seed : List ℕ) (lines left : List Line) (count : ℕ) (before after : Progress) : Type 0 where
+  pub front : List Line
+  pub parts : lines ≡ front ++ left
+  pub many : length front ≡ count
+  pub ran : (others : Player) → Ran seed opening (play_then seed front others) others before after
 
 -- What the steps and armings of a script did to a disk, in a run of this seed.
 pub record RunsOnDisk (seed : List ℕ) (deeds : List Deed) (s t : DiskState) : Type 0 where

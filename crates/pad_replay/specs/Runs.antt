@@ -7,6 +7,7 @@ use Rattle.flat_machine.specs.Settings.{Setting}
 use Rattle.flat_machine.specs.State.{Flat, Shared, opening}
 use Rattle.local_check.specs.StandardWork.{standard_rules}
 use Rattle.pad_machine.specs.Stands.{set_by}
+use Rattle.pad_steps.specs.Lines.{Line as PrintedLine}
 use Rattle.pad_steps.specs.declared.steps.DiskWord.{DiskWord}
 use Rattle.pad_steps.specs.declared.steps.Step.{Step}
 use Rattle.pad_replay.specs.Script.{ScriptLines, lines_of}
@@ -109,6 +110,10 @@ module _ (seed : List ℕ) where
   -- lines, one after the other, and nothing more
   abbrev pub play : List Line → Player
   play lines = play_then lines play_end
+
+  -- what is printed of lines with these words
+  abbrev pub printed_by : List Line → List DiskWord → List PrintedLine
+  printed_by lines words = lines_from (program_setting seed) opening (acts_in (play lines opening words).deeds)
 
   -- the lines of a script, and the mark of its bad line
   abbrev pub play_script : ScriptLines → Player

@@ -1,14 +1,18 @@
 // The words of the command line.
-ghost use Rattle.std.specs.Prelude.{◌≡◌, IfSome, is_some};
+ghost use Rattle.std.specs.Prelude.{◌≡◌, ◌≤◌, IfSome, is_some};
 ghost use Rattle.std.specs.Option.{option_copied, option_map};
-ghost use Rattle.pad_replay.specs.CommandLine.{asked_behind, asked_by, asked_by_one, is_form, is_word, path_in, path_of, seed_in, seed_of};
-ghost use Rattle.pad_replay.specs.Asked.{asked_of};
+ghost use Rattle.pad_replay.specs.CommandLine.{asked_behind, asked_by, asked_by_one, generated_behind, is_form, is_word, path_in, path_of, rounds_of, seed_of};
+ghost use Rattle.pad_replay.specs.Asked.{HasFewRounds, asked_of};
 
-/// What a replay is asked for: the path of the store's file, if it has one, and the seed of the fill words.
+use script_lang::read_number;
+
+/// What the words ask for.
 #[derive(Clone, Copy)]
-pub struct Request<'w> {
-    pub path: Option<&'w str>,
-    pub seed: [u8; 32],
+pub enum Request<'w> {
+    /// The replay of a script: the path of the store's file, if it has one, and the seed of the fill words.
+    Replay(Option<&'w str>, [u8; 32]),
+    /// The replay of the generated script of so many rounds, 1 to 5,000.
+    Generated(u16),
 }
 
 /// The path of the disk's file: P of the words `replay store P` and `replay store P seed H`, where it is not empty. None
@@ -16,37 +20,56 @@ pub struct Request<'w> {
 pub fn store_path(words: &[String]) -> Option<&str>
     ensures { option_copied result ≡ path_in words.now }
 {
-    request_of(words)?.path
+    match request_of(words)? {
+        Request::Replay(path, _) => path,
+        Request::Generated(_) => None,
+    }
 }
 
 /// What the words ask for. None exactly where they are none of the forms.
 pub fn request_of(words: &[String]) -> Option<Request<'_>>
     ensures asked { option_map asked_of result ≡ asked_by words.now }
     ensures form { is_some result ≡ is_form words.now }
-    ensures seed { IfSome result (λ request. request.seed ≡ seed_in words.now) }
+    ensures few { IfSome result HasFewRounds }
 {
     match words {
         [word, rest @ ..] if is_word(word, "replay") => request_behind(rest),
+        [word, rest @ ..] if is_word(word, "gen") => generated_behind(rest),
         _ => None,
     }
 }
 
-// What the words behind `replay` ask for.
-fn request_behind(words: &[String]) -> Option<Request<'_>>
-    ensures { option_map asked_of result ≡ asked_behind words.now }
+// What the words behind `gen` ask for.
+fn generated_behind(words: &[String]) -> Option<Request<'_>>
+    ensures asked { option_map asked_of result ≡ generated_behind words.now }
+    ensures few { IfSome result HasFewRounds }
 {
     match words {
-        [] => Some(Request {
-            path: None,
-            seed: [0; 32],
-        }),
+        [rounds] => Some(Request::Generated(rounds_of(rounds.as_str())?)),
+        _ => None,
+    }
+}
+
+// A number of rounds, 1 to 5,000, without a leading zero.
+fn rounds_of(text: &str) -> Option<u16>
+    ensures rounds { result ≡ rounds_of text.now }
+    ensures few { IfSome result (λ rounds. rounds ≤ 5000) }
+{
+    let rounds = read_number(1, 5000, text.as_bytes())?;
+    Some(rounds as u16)
+}
+
+// What the words behind `replay` ask for.
+fn request_behind(words: &[String]) -> Option<Request<'_>>
+    ensures asked { option_map asked_of result ≡ asked_behind words.now }
+    ensures few { IfSome result HasFewRounds }
+{
+    match words {
+        [] => Some(Request::Replay(None, [0; 32])),
         [word, value] => request_by_one(word, value.as_str()),
         [first, path, second, seed] if is_word(first, "store") && is_word(second, "seed") => {
             let seed = seed_of(seed.as_str())?;
-            Some(Request {
-                path: Some(path_of(path.as_str())?),
-                seed,
-            })
+            Some(Request::Replay(Some(path_of(path.as_str())?), seed))
         }
         _ => None,
     }
@@ -54,19 +77,14 @@ fn request_behind(words: &[String]) -> Option<Request<'_>>
 
 // What one word and its value behind `replay` ask for.
 fn request_by_one<'w>(word: &String, value: &'w str) -> Option<Request<'w>>
-    ensures { option_map asked_of result ≡ asked_by_one word.now value.now }
+    ensures asked { option_map asked_of result ≡ asked_by_one word.now value.now }
+    ensures few { IfSome result HasFewRounds }
 {
     if is_word(word, "store") {
-        return Some(Request {
-            path: Some(path_of(value)?),
-            seed: [0; 32],
-        });
+        return Some(Request::Replay(Some(path_of(value)?), [0; 32]));
     }
     if is_word(word, "seed") {
-        return Some(Request {
-            path: None,
-            seed: seed_of(value)?,
-        });
+        return Some(Request::Replay(None, seed_of(value)?));
     }
     None
 }

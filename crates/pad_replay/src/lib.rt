@@ -2,9 +2,13 @@
 #![tactic(auto)]
 
 mod command_line;
+mod discard;
+mod generated;
+mod generated_run;
 mod replay;
 mod script_reader;
 mod script_run;
+mod tally;
 #[cfg(test)]
 mod tests;
 mod top;

@@ -8,10 +8,12 @@ ghost use Rattle.flat_machine.specs.State.{is_off, opening};
 ghost use Rattle.pad_machine.specs.Runs.{PadIsTied};
 ghost use Rattle.pad_machine.specs.Stands.{StandsFor};
 ghost use Rattle.pad_replay.specs.Parts.{BreaksPart, RunsPart, TakesPart};
+ghost use Rattle.pad_replay.specs.Tallies.{no_counts};
 ghost use Rattle.pad_replay.specs.Runs.{auto_then, line_then, step_then};
 ghost use Rattle.pad_steps.specs.Formed.{is_well_formed};
 ghost use Rattle.script_lang.specs.Spelling.{is_spelled};
 
+use crate::tally::Tally;
 use disk_core::{ArmDisk, Counted, Sink};
 use flat_machine::laws::disk_runs::{disk_runs_join, key_layout_tells_apart};
 use local_check::StandardWork;
@@ -29,11 +31,12 @@ pub struct Break {
     pub is_taken: bool,
 }
 
-/// A replay: its pad, the words that the disk said, and what each step uses again.
+/// A replay: its pad, the words that the disk said, what was counted, and what each step uses again.
 #[derive(Drop)]
 pub struct Replay {
     pub(crate) pad: Pad<StandardWork>,
     pub(crate) words: Vec<DiskWord>,
+    pub(crate) tally: Tally,
     outs: Outs,
     pub(crate) printer: Printer,
 }
@@ -45,10 +48,12 @@ impl Replay {
     pub fn new(alloc: Global, seed: [u8; 32]) -> Result<Replay, NoMemory>
         ensures stands { IfOk result (λ replay. StandsFor replay.pad seed opening) }
         ensures words { IfOk result (λ replay. replay.words.items ≡ []) }
+        ensures tally { IfOk result (λ replay. replay.tally ≡ no_counts) }
     {
         Ok(Replay {
             pad: Pad::new(alloc, StandardWork, seed)?,
             words: Vec::new(alloc),
+            tally: Tally::new(),
             outs: Outs::new(alloc)?,
             printer: Printer::new(alloc),
         })
@@ -143,7 +148,7 @@ impl Replay {
         }
     }
 
-    // Takes a step over the disk, prints it and keeps its word.
+    // Takes a step over the disk, prints it, counts it and keeps its word.
     fn take_step<K: Sink, D: ArmDisk>(
         &mut self,
         disk: &mut D,
@@ -188,6 +193,7 @@ impl Replay {
             &self.outs,
             sink,
         );
+        self.tally.count_step(&stepped.word, &self.outs);
         self.words.push_reserved(stepped.word);
         match printed {
             Ok(()) => Ok(()),

@@ -1,5 +1,5 @@
 // A script run as it comes.
-ghost use Rattle.std.specs.Prelude.{List, ◌≡◌, ◌≢◌, ◌≤◌, ◌+◌, ◌↔◌, [], IfSome, false, length, true, ℕ};
+ghost use Rattle.std.specs.Prelude.{List, ◌≡◌, ◌≢◌, ◌<◌, ◌≤◌, ◌+◌, ◌-◌, ◌^◌, ◌↔◌, [], IfSome, false, length, true, ℕ};
 ghost use Rattle.disk_core.specs.Causes.{Rose};
 ghost use Rattle.disk_core.specs.CountedSinks.{counted_given, counted_faults};
 ghost use Rattle.disk_core.specs.Streams.{GivesFront, with_more};
@@ -117,9 +117,9 @@ impl Replay {
     }
 }
 
-// How a run ends that broke off in a line behind so many others.
-fn broken_off(count: u32, stop: Break) -> Course
-    requires { count ≤ 65536 }
+/// How a run ends that broke off in a line behind so many others.
+pub fn broken_off(count: u32, stop: Break) -> Course
+    requires { count < 2 ^ 32 - 1 }
     ensures taken { stop.is_taken ≡ true → result.line ≡ count + 1 }
     ensures not_taken { stop.is_taken ≡ false → result.line ≡ count }
     ensures others { (result.end ≢ End.Whole) × ((result.end ≢ End.BadLine) × (result.end ≢ End.SourceFailed)) }
@@ -131,7 +131,8 @@ fn broken_off(count: u32, stop: Break) -> Course
     }
 }
 
-fn end_of_printing(fault: PrintFault) -> End
+/// How a run ends of which not all was printed.
+pub fn end_of_printing(fault: PrintFault) -> End
     ensures failed { (result ≡ End.SinkFailed) ↔ (fault ≡ PrintFault.Failed) }
     ensures memory { (result ≡ End.NoMemory) ↔ (fault ≡ PrintFault.NoMemory) }
     ensures others { (result ≢ End.Whole) × ((result ≢ End.BadLine) × (result ≢ End.SourceFailed)) }

@@ -1,6 +1,7 @@
 //! How a run ends, and what no clause says: that memory suffices. What is printed of a run is in the folder `data` of
 //! `worked_runs`.
 mod faults;
+mod generated;
 mod stores;
 
 use crate::command_line::store_path;

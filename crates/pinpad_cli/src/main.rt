@@ -1,8 +1,10 @@
 //! Replays a script of the pad and prints its transcript.
 #![tactic(auto)]
 
+ghost use Rattle.std.specs.Prelude.{◌≡◌};
+
 use disk_core::{ArmDisk, Counted, FileDisk, MemDisk, OpenFault, StdSink, StdSource};
-use pad_replay::{run_pinpad, store_path};
+use pad_replay::{Ended, run_pinpad, store_path};
 use std::process::ExitCode;
 use std::{env, io};
 
@@ -45,5 +47,12 @@ fn replay<D: ArmDisk>(rt: &HostRuntime, words: &[String], disk: &mut D) -> ExitC
     if ended.status == 2 {
         let _ = eprintln!(rt; "{USAGE}");
     }
-    ExitCode::from(ended.status)
+    ExitCode::from(exit_status(&ended))
+}
+
+// The exit status of the program is that of the run.
+fn exit_status(ended: &Ended) -> u8
+    ensures { result ≡ ended.now.status }
+{
+    ended.status
 }

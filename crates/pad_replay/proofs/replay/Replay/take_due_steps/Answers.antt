@@ -6,7 +6,7 @@ use Rattle.pad_replay.proofs.replay.Replay.take_due_steps.Goals as goal
 
 pub loop-step-init : goal.loop-step-init
 loop-step-init g c = record {
-  ran = λ seed start rest stands. ran-none seed start _ _ (auto_then seed rest) stands refl refl (c.disk_runs_join.ensures.none key_layout (program_setting seed) start c.args.disk.now);
+  ran = λ seed start rest stands. ran-none seed start _ _ (auto_then seed rest) stands refl refl refl (c.disk_runs_join.ensures.none key_layout (program_setting seed) start c.args.disk.now);
   later = omega arith;
   ids = omega arith;
   tied = c.requires.tied;
