@@ -28,6 +28,7 @@ class Group:
 GROUPS = [
     Group(0, 440, "programs", [["pinpad_cli", "worked_runs"]]),
     Group(1, 440, "whole runs of a script", [["pad_replay"]]),
+    Group(1, 968, "one pad for threads", [["pad_desk"]]),
     Group(2, 330, "the pad: the code of a step", [["pad_machine"]]),
     Group(2, 766, "text", [["transcript", "script_lang"]]),
     Group(3, 330, "the machine: its definition and laws", [["flat_machine"]], width=600),
@@ -37,11 +38,11 @@ GROUPS = [
     Group(4, 766, "keys on a disk", [["key_table", "key_record"], ["nv_store", "disk_core"]]),
     Group(5, 131, "ciphers", [["check_values", "cbc_mac"], ["des_core"]]),
     Group(6, 390, "commands, steps and answers", [["pad_steps", "key_source", "key_attributes"]], width=600),
-    Group(6, 790, "the turn of threads", [["turnstile"]]),
+    Group(6, 968, "the turn of threads", [["turnstile"]]),
     Group(7, 440, "small values, and spelled words", [["pad_words", "spelled_words"]], width=600),
 ]
 
-WIDTH = 880
+WIDTH = 1060
 BOX, BETWEEN, EDGE, TITLE, BETWEEN_LAYERS = 25, 8, 12, 23, 34
 LETTER, TITLE_LETTER = 7.3, 6.6
 PANEL, LINE, PAPER, INK, TITLE_INK, ARROW = "#e6eefa", "#5b7fb0", "#ffffff", "#12263f", "#2f5a93", "#7f8ea3"

@@ -1,0 +1,7 @@
+pub mod AnswerLemmas
+pub mod DiskLemmas
+pub mod HistoryLemmas
+pub mod OpeningLemmas
+pub mod SendLemmas
+pub mod StatusLemmas
+pub mod StepLemmas

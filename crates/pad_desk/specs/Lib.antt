@@ -1,0 +1,7 @@
+pub mod Answers
+pub mod Desks
+pub mod Histories
+pub mod Machines
+pub mod Outs
+pub mod Replies
+pub mod Stands
