@@ -48,7 +48,14 @@ fn prints_word(
 ) -> Result<(), Fail> {
     let outs = Outs::new(alloc)?;
     let mut sink = sink(rt, alloc, 40, &[]);
-    let printed = Printer::new(alloc).print_step(&Step::Begin, false, &word, fate, &outs, &mut sink);
+    let printed = Printer::new(alloc).print_step(
+        &Step::Begin,
+        false,
+        &word,
+        fate,
+        &outs,
+        &mut sink,
+    );
     assert_eq!(rt; printed, Ok(()), "{line}");
     assert_eq!(rt; sink.inner().bytes(), line.as_bytes(), "{line}");
     Ok(())
@@ -452,14 +459,7 @@ fn failing_sinks_get_a_front(rt: HostRuntime) -> Result<(), Fail> {
     for (room, fails, front) in cases {
         let mut sink = sink(&rt, rt.alloc(), room, fails);
         let word = DiskWord::Done;
-        let printed = printer.print_step(
-            &Step::Begin,
-            false,
-            &word,
-            None,
-            &outs,
-            &mut sink,
-        );
+        let printed = printer.print_step(&Step::Begin, false, &word, None, &outs, &mut sink);
         assert_eq!(rt; printed, Err(PrintFault::Failed), "{front}");
         assert_eq!(rt; sink.inner().bytes(), front.as_bytes());
     }
@@ -468,10 +468,7 @@ fn failing_sinks_get_a_front(rt: HostRuntime) -> Result<(), Fail> {
 
 #[test]
 fn marks_of_bad_lines(rt: HostRuntime) -> Result<(), Fail> {
-    let cases = [
-        (1, "! bad line 1\n"),
-        (65_537, "! bad line 65537\n"),
-    ];
+    let cases = [(1, "! bad line 1\n"), (65_537, "! bad line 65537\n")];
     let mut printer = Printer::new(rt.alloc());
     for (line, text) in cases {
         let mut sink = sink(&rt, rt.alloc(), 40, &[]);
