@@ -79,6 +79,20 @@ sessions() {
     }'
 }
 
+# The script of so many generated rounds, without their power cuts. Its check and its code are asked under these two keys.
+rounds() {
+    printf 'boot\nopen 1\nopen 2\nlisten 1 both\nlisten 2 service\nsubmit 1 0 maintain on\nauto\n'
+    printf 'submit 1 0 import P clear 0000000000000000 0002 zero\nsubmit 2 0 import M clear 0123456789ABCDEF 0004 zero\nauto\n'
+    awk -v rounds="$1" -v check="$2" -v code="$3" 'BEGIN {
+        for (i = 0; i < rounds; i++) {
+            print "submit 1 0 getpin 4 4 auto 000303FF00000000 0003000000000000\nauto"
+            for (j = 0; j < 4; j++) print "press " (i + 3 * j) % 10
+            print "submit 1 0 localdes " check " 0000000000000000 0 2163 4 lead 0123456789012345\nauto"
+            print "submit 2 0 crypt mac encrypt " code " - 00 4E6F772069732074\nauto"
+        }
+    }'
+}
+
 # timed SCRIPT WORD..: runs the program five times with these words on a script, and prints the least seconds and the peak of memory in KB, which is never
 # less than that of the process here that starts it.
 timed() {
@@ -118,6 +132,16 @@ for kind in long_entry short_entries short_lines long_lines long_messages sessio
     awk -v kind="$kind" -v small="${taken[0]}" -v large="${taken[1]}" -v one="${each[0]}" -v other="${each[1]}" \
         'BEGIN { printf "%-14s the large one takes %.1f times as long, %s and %s microseconds a line\n", kind, large / small, one, other }'
 done
+
+# What the ciphers take of a generated run is told by the same rounds under keys that are not there, for which nothing is
+# enciphered: the difference has also what a check and a code do beside their ciphers.
+rounds 5000 P M >"$work/script"
+read -r enciphered _ <<<"$(timed "$work/script" replay)"
+rounds 5000 Q N >"$work/script"
+read -r refused _ <<<"$(timed "$work/script" replay)"
+awk -v all="$enciphered" -v less="$refused" 'BEGIN {
+    printf "5,000 rounds take %.3f s, and %.3f s where no key is found: the ciphers take at most %.0f %%\n", all, less, 100 * (1 - less / all)
+}'
 
 for rounds in 500 5000; do
     measured=$(timed /dev/null gen "$rounds")
