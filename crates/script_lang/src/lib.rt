@@ -9,6 +9,7 @@ mod digit_fields;
 mod entry_rules;
 mod fields;
 pub mod kinds;
+pub mod lane_kinds;
 mod laws;
 mod line_buffer;
 pub mod line_reader;
@@ -25,6 +26,7 @@ pub mod writing;
 
 pub use fields::read_number;
 pub use kinds::{Line, LineFault};
+pub use lane_kinds::{LaneId, LaneLine, LaneStep};
 pub use laws::{lines_are_cut_one_by_one, spelled_again};
 pub use line_reader::{LineReader, Taken};
 pub use reading::read_line;
