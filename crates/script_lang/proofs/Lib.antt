@@ -25,6 +25,9 @@ pub mod LineLaws
 pub mod WordPrints
 pub mod PrintLaws
 pub mod MemoryLaws
+pub mod LaneWordLaws
+pub mod LaneStepLaws
+pub mod LaneLineLaws
 pub mod ReadLaws
 pub mod WriteLemmas
 pub mod FeedLemmas

@@ -82,10 +82,10 @@ rows_take_lines line_verb.Cut = cut_takes
 rows_take_lines line_verb.Fail = fail_takes
 
 -- a line behind its first word
-line_row : (verb : LineVerb) (ws : List Word) (bytes : List ℕ) (s : Says bytes (line_verb_word verb ∷ ws)) → with_field read_line_verb line_after bytes ≡ line_after verb s.0
+pub line_row : (verb : LineVerb) (ws : List Word) (bytes : List ℕ) (s : Says bytes (line_verb_word verb ∷ ws)) → with_field read_line_verb line_after bytes ≡ line_after verb s.0
 line_row = row_at read_line_verb line_verb_word line_after line_verb_field
 
-row_again : (l : Line) (bytes : List ℕ) → LineFits l → Says bytes (line_words l) → with_field read_line_verb line_after bytes ≡ Some l
+pub row_again : (l : Line) (bytes : List ℕ) → LineFits l → Says bytes (line_words l) → with_field read_line_verb line_after bytes ≡ Some l
 unfolding read_listen read_cancel read_press read_tick
 row_again line.Blank bytes fits h = absurd fits
 row_again line.Auto bytes fits h = line_row line_verb.Auto [] bytes h ∙ (ended_reads line.Auto).again h.0 line.Auto (refl, h.2)
@@ -115,7 +115,7 @@ row_again (line.Arm call (struck.Cut keep)) bytes fits h = line_row line_verb.Cu
 -- ---- lines
 
 -- a line that is not blank is read as its words are, behind a space
-of_rows : (bytes : List ℕ) → line_of bytes ≡ cond (is_blank bytes) (Some line.Blank) (with_field read_line_verb line_after (32 ∷ bytes) >>= where_spelled)
+pub of_rows : (bytes : List ℕ) → line_of bytes ≡ cond (is_blank bytes) (Some line.Blank) (with_field read_line_verb line_after (32 ∷ bytes) >>= where_spelled)
 unfolding line_of next_word
 of_rows bytes = refl
 

@@ -50,7 +50,7 @@ word_prints : {A : Type 0} (same : A → A → Bool) (table : List (A × List �
 word_prints {A} same table has all value = ((word_passes same (λ (row : A × List ℕ). list_all is_no_space row.1) table value (has value) all).2, refl)
 
 -- a table with a row for each variant of an enum
-enum_field : (D : Declared) (table : List (D.D × List ℕ)) → Bare D.parts → covers D table ≡ true → IsField (value_of table) Always (λ value. Exact (word_of (sameb D) table value))
+pub enum_field : (D : Declared) (table : List (D.D × List ℕ)) → Bare D.parts → covers D table ≡ true → IsField (value_of table) Always (λ value. Exact (word_of (sameb D) table value))
 enum_field D table bare all = word_field (sameb D) table (covers_agree D table bare all) (covers_all D table all)
 
 enum_prints : (D : Declared) (table : List (D.D × List ℕ)) → covers D table ≡ true → list_all (λ (row : D.D × List ℕ). list_all is_no_space row.1) table ≡ true → (value : D.D) → Prints (Exact (word_of (sameb D) table value))

@@ -30,7 +30,7 @@ says_spaced (w ∷ ws) all = (spaced ws, record { text = word_text w; parts = re
 is_no_space_above : (c : ℕ) → 32 < c → is_no_space c ≡ true
 is_no_space_above c high = grind (arith, nat_tests)
 
-digits_spaceless : (ds : List ℕ) → all_ascii_digits ds ≡ true → Spaceless ds
+pub digits_spaceless : (ds : List ℕ) → all_ascii_digits ds ≡ true → Spaceless ds
 digits_spaceless [] all = refl
 digits_spaceless (c ∷ cs) all =
     let b = both_true (nat_le 48 c && nat_le c 57) (all_ascii_digits cs) all in

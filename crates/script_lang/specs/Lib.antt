@@ -2,6 +2,8 @@ pub mod Words
 pub mod Spelling
 pub mod Reading
 pub mod Memory
+pub mod LaneSpelling
+pub mod LaneReading
 pub mod Lines
 pub mod Gathering
 pub use Rattle.pad_steps.specs.Formed

@@ -27,6 +27,14 @@ pub enum LaneStep {
     AwaitReply(Session, u32),
 }
 
+/// The first word of a step that stands in lane scripts alone.
+#[derive(Clone, Copy, Debug, PartialEq, Eq)]
+pub enum LaneVerb {
+    Cancel,
+    Ask,
+    Await,
+}
+
 /// A line of a lane script.
 #[derive(Drop)]
 pub enum LaneLine {

@@ -9,7 +9,9 @@ mod digit_fields;
 mod entry_rules;
 mod fields;
 pub mod kinds;
+mod lane_fields;
 pub mod lane_kinds;
+mod lane_reading;
 mod laws;
 mod line_buffer;
 pub mod line_reader;
@@ -27,11 +29,14 @@ pub mod writing;
 pub use fields::read_number;
 pub use kinds::{Line, LineFault};
 pub use lane_kinds::{LaneId, LaneLine, LaneStep};
-pub use laws::{lines_are_cut_one_by_one, spelled_again};
+pub use lane_reading::read_lane_line;
+pub use laws::{lane_lines_are_spelled, lines_are_cut_one_by_one, spelled_again};
 pub use line_reader::{LineReader, Taken};
 pub use reading::read_line;
 pub use writing::write_step;
 
+#[cfg(test)]
+mod lane_tests;
 #[cfg(test)]
 mod line_tests;
 #[cfg(test)]

@@ -48,7 +48,7 @@ fn read_row(alloc: Global, verb: LineVerb, rest: &[u8]) -> Result<Line, LineFaul
 }
 
 // whether the line is empty or a comment
-fn is_blank(bytes: &[u8]) -> bool
+pub fn is_blank(bytes: &[u8]) -> bool
     ensures { result ≡ is_blank bytes.now }
 {
     match bytes {
