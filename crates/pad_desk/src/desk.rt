@@ -52,7 +52,7 @@ impl<W: PinWork + Drop, D: PowerDisk + Drop> Desk<W, D> {
     ) -> Result<(Desk<W, D>, DeskPass<W, D>), NoMemory>
         requires pad { StandsFor pad pad.kept.seed opening }
         requires disk { IsFreshDisk (D.state disk) }
-        ensures { IfOk result (λ made. IsPassOf made.0.turn made.1 × (view made.1 ≡ first_view)) }
+        ensures { IfOk result (λ made. IsPassOf made.0.turn made.1 × (view made.1 ≡ first_view pad.kept.seed)) }
     {
         disk_runs_join::<D>();
         let (turn, pass) = Turn::new(alloc, PadAndDisk::new(alloc, pad, disk))?;
@@ -186,6 +186,9 @@ impl<W: PinWork + Drop, D: PowerDisk + Drop> Desk<W, D> {
         requires { IsPassOf self.turn pass }
         ensures stands { Stands D.state W.rules result.0 result.1 result.2 }
         ensures legal { Legal W.rules result.2 }
+
+        // The seed is that of the pad with which the desk was made.
+        ensures seed { result.0.kept.seed ≡ (view pass).origin }
 
         // What the disk has is what the words of the history tell.
         ensures disk { HistoryOnDisk (set_by W.rules result.0.kept.seed) result.2 (D.state result.1) }

@@ -52,6 +52,8 @@ impl<W: PinWork + Drop, D: PowerDisk + Drop> Machine for PadAndDisk<W, D> {
 
     ghost stands = { λ m h. Stands D.state W.rules m.pad m.disk h };
 
+    ghost origin = { λ m. m.pad.kept.seed };
+
     ghost legal = { Legal W.rules };
 
     ghost allows = { λ step. IsTrue (is_well_formed step) };

@@ -18,24 +18,24 @@ module _ {X O R : Type 0} where
   pub same_slot : (h h' : Held X O R) → Path (List (ℕ × Option (Held X O R))) ((0, Some h) ∷ []) ((0, Some h') ∷ []) → h ≡ h'
   same_slot h h' e = let pair : Path (ℕ × Option (Held X O R)) (0, Some h) (0, Some h') = cc e in let some_h : Path (Option (Held X O R)) (Some h) (Some h') = ap (λ (y : ℕ × Option (Held X O R)). y.1) pair in cc
 
-  pub carries_grown : (stands : X → List (Entry O R) → Type 0) (m m' : SeatState X O R) (e : Entry O R) → m' ≡ (grown m.0 e, m.1) → Carries stands m (entries_of m.0.seen ++ e ∷ []) → Carries stands m' (entries_of m'.0.seen)
-  carries_grown stands m m' e at k = let bare : entries_of m.0.seen ++ e ∷ [] ≡ entries_of (m.0.seen ++ made_by m.0.number e ∷ []) = sym (map_push entry_in m.0.seen (made_by m.0.number e)) in
-      subst (λ y. Carries stands y (entries_of y.0.seen)) (sym at) (k.0, k.1, k.2 ∙ bare, subst (stands k.0.machine) bare k.3)
+  pub carries_grown : (family : List ℕ → X → List (Entry O R) → Type 0) (m m' : SeatState X O R) (e : Entry O R) → m' ≡ (grown m.0 e, m.1) → Carries (family m.0.origin) m (entries_of m.0.seen ++ e ∷ []) → Carries (family m'.0.origin) m' (entries_of m'.0.seen)
+  carries_grown family m m' e at k = let bare : entries_of m.0.seen ++ e ∷ [] ≡ entries_of (m.0.seen ++ made_by m.0.number e ∷ []) = sym (map_push entry_in m.0.seen (made_by m.0.number e)) in
+      subst (λ y. Carries (family y.0.origin) y (entries_of y.0.seen)) (sym at) (k.0, k.1, k.2 ∙ bare, subst (family m.0.origin k.0.machine) bare k.3)
+
+  pub begins : (family : List ℕ → X → List (Entry O R) → Type 0) (status : List (Entry O R) → ℕ) (legal : List (Entry O R) → Type 0) (v : PassView O R) (t : ℕ) (m m2 : SeatState X O R) → m ≡ (record v { stage = Waiting t }, []) → GotTurn (family m.0.origin) legal status m m2 → Begun (family v.origin) legal status v m2
+  begins family status legal v t m m2 at turned =
+      let tu = subst (λ y. GotTurn (family y.0.origin) legal status y m2) at turned in record {
+        held = tu.held;
+        begun = λ i. (tu.served i, tu.slot i);
+        fits = tu.fits;
+        later = tu.later;
+        short = tu.short;
+        lawful = tu.lawful;
+        notes = tu.notes;
+        known = tu.known;
+      }
 
   module _ (stands : X → List (Entry O R) → Type 0) (status : List (Entry O R) → ℕ) (legal : List (Entry O R) → Type 0) where
-    pub begins : (v : PassView O R) (t : ℕ) (m m2 : SeatState X O R) → m ≡ (record v { stage = Waiting t }, []) → GotTurn stands legal status m m2 → Begun stands legal status v m2
-    begins v t m m2 at turned =
-        let tu = subst (λ y. GotTurn stands legal status y m2) at turned in record {
-          held = tu.held;
-          begun = λ i. (tu.served i, tu.slot i);
-          fits = tu.fits;
-          later = tu.later;
-          short = tu.short;
-          lawful = tu.lawful;
-          notes = tu.notes;
-          known = tu.known;
-        }
-
     pub enters : (v : PassView O R) (m : SeatState X O R) (u w2 w : PassView O R) (place : ℕ) (op : O) (outcome : R) → Begun stands legal status v m → v.stage ≡ Idle → u ≡ m.0 → w2 ≡ grown u (entry op outcome) → w ≡ record w2 { stage = Idle }
         → place ≡ length u.seen → place < 1048576 → legal (entries_of w2.seen) → TellsPasses w2.seen (passes_known w2) → Enters legal status v place op outcome w
     enters v m u w2 w place op outcome b idle same after last at room law known =

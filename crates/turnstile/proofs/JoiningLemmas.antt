@@ -85,7 +85,7 @@ module _ {O R : Type 0} where
   joined_all-joined v v1 w1 o o1 w is1 iso g go settled = joined_fields v1 w1 o o1 w v is1 iso g go
       (ap (λ (y : PassView O R). y.number) settled.0) (ap (λ (y : PassView O R). y.seated) settled.0) (ap (λ (y : PassView O R). y.ended) settled.0)
 
-  pub joined_all-whole : (v w : PassView O R) → v ≡ first_view → HasJoinedAll v w → AreWhole (passes_known w)
-  joined_all-whole v w first g = whole_of (known_self w) w.ended g.more
+  pub joined_all-whole : (origin : List ℕ) (v w : PassView O R) → v ≡ first_view origin → HasJoinedAll v w → AreWhole (passes_known w)
+  joined_all-whole origin v w first g = whole_of (known_self w) w.ended g.more
       (g.number ∙ ap (λ (y : PassView O R). y.number) first) (g.ended ∙ ap (λ (y : PassView O R). y.ended ++ g.more) first)
       (subst (λ (y : PassView O R). HasSeated (known_self w) y.seated g.more) first g.own) g.theirs

@@ -49,13 +49,13 @@ module _ {O R : Type 0} where
   abbrev pub NotesTrue : (List (Entry O R) → ℕ) → List (MadeEntry O R) → List (ℕ × ℕ) → Type 0
   NotesTrue status log = Each (IsTrueNote status log)
 
-  -- the first pass: its number is empty, and so is all that it knows
-  abbrev pub first_view : PassView O R
-  first_view = record { stage = Idle; number = []; seated = 0; mine = []; seen = []; told = []; notes = []; ended = [] }
+  -- the first pass of a machine of this origin: its number is empty, and so is all that it knows
+  abbrev pub first_view : List ℕ → PassView O R
+  first_view origin = record { stage = Idle; number = []; seated = 0; mine = []; seen = []; told = []; notes = []; ended = []; origin = origin }
 
   -- what is left of a pass that was joined into another
   abbrev pub spent_view : PassView O R
-  spent_view = record { stage = Spent; number = []; seated = 0; mine = []; seen = []; told = []; notes = []; ended = [] }
+  spent_view = record { stage = Spent; number = []; seated = 0; mine = []; seen = []; told = []; notes = []; ended = []; origin = [] }
 
   -- a pass as others know it
   abbrev pub known_self : PassView O R → KnownPass
@@ -75,7 +75,7 @@ module _ {O R : Type 0} where
 
   -- the new pass: its number is its maker's, followed by its rank; it has seen what its maker has, and made nothing
   abbrev pub new_seat : PassView O R → PassView O R
-  new_seat v = record { stage = Idle; number = v.number ++ v.seated ∷ []; seated = 0; mine = []; seen = v.seen; told = []; notes = []; ended = [] }
+  new_seat v = record { stage = Idle; number = v.number ++ v.seated ∷ []; seated = 0; mine = []; seen = v.seen; told = []; notes = []; ended = []; origin = v.origin }
 
   -- the longer of two histories
   abbrev pub longer : List (MadeEntry O R) → List (MadeEntry O R) → List (MadeEntry O R)
@@ -97,14 +97,26 @@ module _ {O R : Type 0} where
     StageHolds Served = (turn < drawn) × (owner turn ≡ j) × (out ≡ true) × (seen ≡ log)
     StageHolds Spent = Unit {0}
 
--- what the rule has of each seat: its stage; what it has seen and was told are beginnings of the history; its notes are true; the numbers that it knows differ, and of each the rule has `PassHolds`
-pub record SeatHolds {O R : Type 0} (status : List (Entry O R) → ℕ) (drawn turn : ℕ) (out : Bool) (log : List (MadeEntry O R)) (owner : ℕ → ℕ) (keeper count : List ℕ → ℕ) (j : ℕ) (d : PassView O R) : Type 0 where
+-- the pass knows the machine's origin, until it is spent
+abbrev pub KnowsOrigin : List ℕ → Stage → List ℕ → Type 0
+KnowsOrigin origin Idle known = known ≡ origin
+KnowsOrigin origin (Waiting t) known = known ≡ origin
+KnowsOrigin origin Served known = known ≡ origin
+KnowsOrigin origin Spent known = Unit {0}
+
+-- what the rule has of each seat: its stage; what it has seen and was told are beginnings of the history; its notes are true; the numbers that it knows differ, and of each the rule has `PassHolds`; and it knows the machine's origin
+pub record SeatHolds {O R : Type 0} (origin : List ℕ) (status : List (Entry O R) → ℕ) (drawn turn : ℕ) (out : Bool) (log : List (MadeEntry O R)) (owner : ℕ → ℕ) (keeper count : List ℕ → ℕ) (j : ℕ) (d : PassView O R) : Type 0 where
   pub stage : StageHolds drawn turn out log owner j d.seen d.stage
   pub seen : StartsWith log d.seen
   pub told : StartsWith log d.told
   pub notes : NotesTrue status log d.notes
   pub differ : NumbersDiffer (known_passes d.stage (known_self d) d.ended)
   pub known : Each (PassHolds keeper count log j) (known_passes d.stage (known_self d) d.ended)
+  pub origin_known : KnowsOrigin origin d.stage d.origin
+
+-- the machine is of this origin, and stands for the history
+abbrev pub StandsFrom : {X O R : Type 0} → (X → List (Entry O R) → Type 0) → (X → List ℕ) → List ℕ → X → List (Entry O R) → Type 0
+StandsFrom stands origin_of origin machine history = stands machine history × (origin_of machine ≡ origin)
 
 module _ {X O R : Type 0} (stands : X → List (Entry O R) → Type 0) where
   -- what lies in the slot stands for the history, and has it
@@ -115,8 +127,8 @@ module _ {X O R : Type 0} (stands : X → List (Entry O R) → Type 0) where
   abbrev pub IsAtHome : List (maybe.Option (Option (Held X O R))) → List (MadeEntry O R) → Type 0
   IsAtHome homes log = (h : Held X O R) × (get_elem? homes 0 ≡ some (some (Some h))) × StandsWith h log
 
-module _ {X O R : Type 0} (stands : X → List (Entry O R) → Type 0) (status : List (Entry O R) → ℕ) where
-  -- the rule of the table. `owner` says which seat has a ticket, `keeper` which seat knows a number, `count` how many passes a number has seated. The words are the tickets drawn, the turns served, and the board; the slot is at home unless the served seat has it
+module _ {X O R : Type 0} (origin : List ℕ) (stands : X → List (Entry O R) → Type 0) (status : List (Entry O R) → ℕ) where
+  -- the rule of the table, of a machine of this origin. `owner` says which seat has a ticket, `keeper` which seat knows a number, `count` how many passes a number has seated. The words are the tickets drawn, the turns served, and the board; the slot is at home unless the served seat has it
   pub record TurnRule (legal : List (Entry O R) → Type 0) (s : State (Option (Held X O R)) (PassView O R)) : Type 0 where
     pub drawn : ℕ
     pub turn : ℕ
@@ -138,7 +150,7 @@ module _ {X O R : Type 0} (stands : X → List (Entry O R) → Type 0) (status :
     pub busy : out ≡ true → turn < drawn
     pub home : out ≡ false → IsAtHome stands s.homes log
     pub numbered : Each (λ (m : MadeEntry O R). RanksCounted count m.by) log
-    pub each_seat : (j : ℕ) (d : PassView O R) → get_elem? s.views j ≡ some d → SeatHolds status drawn turn out log owner keeper count j d
+    pub each_seat : (j : ℕ) (d : PassView O R) → get_elem? s.views j ≡ some d → SeatHolds origin status drawn turn out log owner keeper count j d
 
 -- a seat at a step: what is seen of it, and the slots that it has
 abbrev pub SeatState : Type 0 → Type 0 → Type 0 → Type 0
@@ -165,9 +177,9 @@ module _ {X O R : Type 0} where
     pub notes : NotesTrue status m'.0.seen m.0.notes
     pub known : TellsPasses m'.0.seen (passes_known m.0)
 
-  -- a look at the served turn: where it is the ticket's, the turn has come
-  abbrev pub looked : (X → List (Entry O R) → Type 0) → (List (Entry O R) → Type 0) → (List (Entry O R) → ℕ) → TableStep X O R → SeatState X O R → ℕ → SeatState X O R → Type 0
-  looked stands legal status st m r m' = (m.0.stage ≡ Waiting r → GotTurn stands legal status m m') × (m.0.stage ≢ Waiting r → m' ≡ m)
+  -- a look at the served turn: where it is the ticket's, the turn has come, with the machine of the pass's origin
+  abbrev pub looked : (List ℕ → X → List (Entry O R) → Type 0) → (List (Entry O R) → Type 0) → (List (Entry O R) → ℕ) → TableStep X O R → SeatState X O R → ℕ → SeatState X O R → Type 0
+  looked stands legal status st m r m' = (m.0.stage ≡ Waiting r → GotTurn (stands m.0.origin) legal status m m') × (m.0.stage ≢ Waiting r → m' ≡ m)
 
   -- the history has the slot's last entry, under the pass's number
   abbrev pub Posted : SeatState X O R → SeatState X O R → Type 0

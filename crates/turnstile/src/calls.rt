@@ -3,7 +3,7 @@ ghost use Rattle.std.specs.Prelude.{◌≡◌, ◌≢◌, ◌<◌, ◌≤◌, �
 ghost use Rattle.turnstile.specs.declared.view.Stage.TheVariants.{Idle, Waiting, Served};
 ghost use Rattle.turnstile.specs.declared.held.Held.{Held};
 ghost use Rattle.turnstile.specs.declared.machine.Entry.{Entry};
-ghost use Rattle.turnstile.specs.Rules.{GotTurn, Begun, Carries, entries_of, NotesWithin, first_view, grown, passes_known, with_new_seat, new_seat, joined, Settled};
+ghost use Rattle.turnstile.specs.Rules.{StandsFrom, GotTurn, Begun, Carries, entries_of, NotesWithin, first_view, grown, passes_known, with_new_seat, new_seat, joined, Settled};
 ghost use Rattle.turnstile.specs.Entries.{Refuses, entry};
 ghost use Rattle.turnstile.specs.Numbers.{TellsPasses};
 ghost use Rattle.turnstile.specs.Turns.{view, IsPassOf, Enters, Sees, Closes};
@@ -16,6 +16,7 @@ use crate::turn::Turn;
 use atomic_table::Table;
 use pad_words::NoMemory;
 use std::alloc::{AllocError, Global};
+use std::snapshot::Snapshot;
 use std::sync::Wait;
 use std::thread;
 
@@ -68,7 +69,7 @@ impl<M: Machine> Turn<M> {
         requires pass { pass.old.table_id ≡ self.now.table.shared.table_id }
         requires ticket { pass.old.me.0.stage ≡ Waiting ticket }
         ensures pass { (pass.new.table_id ≡ pass.old.table_id) × (pass.new.id ≡ pass.old.id) }
-        ensures turned { result ≡ ticket → GotTurn M.stands M.legal M.status_after pass.old.me pass.new.me }
+        ensures turned { result ≡ ticket → GotTurn (StandsFrom M.stands M.origin (view pass.old).origin) M.legal M.status_after pass.old.me pass.new.me }
         ensures waits { result ≢ ticket → pass.new.me ≡ pass.old.me }
     {
         self.table.shared.load::<Look<M>>(pass, SERVED)
@@ -79,7 +80,7 @@ impl<M: Machine> Turn<M> {
         requires pass { pass.old.table_id ≡ self.now.table.shared.table_id }
         requires ticket { pass.old.me.0.stage ≡ Waiting ticket }
         ensures pass { (pass.new.table_id ≡ pass.old.table_id) × (pass.new.id ≡ pass.old.id) }
-        ensures turned { IfNone result (GotTurn M.stands M.legal M.status_after pass.old.me pass.new.me) }
+        ensures turned { IfNone result (GotTurn (StandsFrom M.stands M.origin (view pass.old).origin) M.legal M.status_after pass.old.me pass.new.me) }
         ensures waits { IfSome result (λ _. pass.new.me ≡ pass.old.me) }
     {
         let served = self.look(pass, ticket);
@@ -91,7 +92,7 @@ impl<M: Machine> Turn<M> {
         requires pass { (pass.old.table_id ≡ self.now.table.shared.table_id) × (pass.old.me.1 ≡ []) }
         requires ticket { pass.old.me.0.stage ≡ Waiting ticket }
         ensures pass { (pass.new.table_id ≡ pass.old.table_id) × (pass.new.id ≡ pass.old.id) }
-        ensures turned { GotTurn M.stands M.legal M.status_after pass.old.me pass.new.me }
+        ensures turned { GotTurn (StandsFrom M.stands M.origin (view pass.old).origin) M.legal M.status_after pass.old.me pass.new.me }
     {
         for _ in rt.forever() {
             let Some(served) = self.turns_before(pass, ticket) else {
@@ -120,7 +121,7 @@ impl<M: Machine> Turn<M> {
     fn begin<W: Wait>(&self, rt: &W, pass: &mut Pass<M>)
         requires { IsPassOf self.now pass.old }
         ensures pass { (pass.new.table_id ≡ pass.old.table_id) × (pass.new.id ≡ pass.old.id) }
-        ensures begun { Begun M.stands M.legal M.status_after (view pass.old) pass.new.me }
+        ensures begun { Begun (StandsFrom M.stands M.origin (view pass.old).origin) M.legal M.status_after (view pass.old) pass.new.me }
     {
         let ticket = self.draw(rt, pass);
         self.await_turn(rt, pass, ticket);
@@ -129,12 +130,12 @@ impl<M: Machine> Turn<M> {
     // Applies the operation to the machine in the slot.
     fn apply(&self, pass: &mut Pass<M>, op: M::Op) -> Result<Entered<M::Outcome>, CallFault<M::Op>>
         requires pass { pass.old.table_id ≡ self.now.table.shared.table_id }
-        requires held { Carries M.stands pass.old.me (entries_of (view pass.old).seen) }
+        requires held { Carries (StandsFrom M.stands M.origin (view pass.old).origin) pass.old.me (entries_of (view pass.old).seen) }
         requires short { length (view pass.old).seen ≤ 1048576 }
         requires allowed { M.allows op }
         ensures pass { (pass.new.table_id ≡ pass.old.table_id) × (pass.new.id ≡ pass.old.id) × (pass.new.me.0 ≡ pass.old.me.0) }
-        ensures ok { IfOk result (λ r. let after = entries_of (view pass.new).seen ++ entry op r.outcome ∷ [] in Carries M.stands pass.new.me after × (r.board ≡ length after * 2 ^ 43 + M.status_after after) × (M.status_after after < 2 ^ 43) × (r.place ≡ length (view pass.new).seen) × (r.place < 1048576)) }
-        ensures err { OnErr result (Carries M.stands pass.new.me (entries_of (view pass.new).seen)) }
+        ensures ok { IfOk result (λ r. let after = entries_of (view pass.new).seen ++ entry op r.outcome ∷ [] in Carries (StandsFrom M.stands M.origin (view pass.new).origin) pass.new.me after × (r.board ≡ length after * 2 ^ 43 + M.status_after after) × (M.status_after after < 2 ^ 43) × (r.place ≡ length (view pass.new).seen) × (r.place < 1048576)) }
+        ensures err { OnErr result (Carries (StandsFrom M.stands M.origin (view pass.new).origin) pass.new.me (entries_of (view pass.new).seen)) }
         ensures refused { IfErr result (Refuses op (length (view pass.new).seen)) }
     {
         match pass.slot_mut(&self.table.shared, 0) {
@@ -153,7 +154,7 @@ impl<M: Machine> Turn<M> {
     // Gives the slot back, and serves the next ticket.
     fn finish(&self, pass: &mut Pass<M>)
         requires pass { (pass.old.table_id ≡ self.now.table.shared.table_id) × (pass.old.me.0.stage ≡ Served) }
-        requires held { Carries M.stands pass.old.me (entries_of (view pass.old).seen) }
+        requires held { Carries (StandsFrom M.stands M.origin (view pass.old).origin) pass.old.me (entries_of (view pass.old).seen) }
         ensures pass { (pass.new.table_id ≡ pass.old.table_id) × (pass.new.id ≡ pass.old.id) }
         ensures idle { pass.new.me ≡ (record (view pass.old) { stage = Idle }, []) }
     {
@@ -165,9 +166,9 @@ impl<M: Machine> Turn<M> {
     fn post(&self, pass: &mut Pass<M>, board: u64)
         requires pass { (pass.old.table_id ≡ self.now.table.shared.table_id) × (pass.old.me.0.stage ≡ Served) }
         requires short { length (view pass.old).seen < 1048576 }
-        requires entry { (e : Entry M.Op M.Outcome) × (let after = entries_of (view pass.old).seen ++ e ∷ [] in Carries M.stands pass.old.me after × (board ≡ length after * 2 ^ 43 + M.status_after after) × (M.status_after after < 2 ^ 43)) }
+        requires entry { (e : Entry M.Op M.Outcome) × (let after = entries_of (view pass.old).seen ++ e ∷ [] in Carries (StandsFrom M.stands M.origin (view pass.old).origin) pass.old.me after × (board ≡ length after * 2 ^ 43 + M.status_after after) × (M.status_after after < 2 ^ 43)) }
         ensures pass { (pass.new.table_id ≡ pass.old.table_id) × (pass.new.id ≡ pass.old.id) }
-        ensures posted { (e : Entry M.Op M.Outcome) → Carries M.stands pass.old.me (entries_of (view pass.old).seen ++ e ∷ []) → pass.new.me ≡ (grown (view pass.old) e, pass.old.me.1) }
+        ensures posted { (e : Entry M.Op M.Outcome) → Carries (StandsFrom M.stands M.origin (view pass.old).origin) pass.old.me (entries_of (view pass.old).seen ++ e ∷ []) → pass.new.me ≡ (grown (view pass.old) e, pass.old.me.1) }
         ensures known { TellsPasses (view pass.new).seen (passes_known (view pass.new)) }
     {
         self.table.shared.store::<Post>(pass, BOARD, board);
@@ -214,8 +215,9 @@ impl<M: Machine> Turn<M> {
     /// is wanting.
     pub fn new(alloc: Global, machine: M) -> Result<(Turn<M>, Pass<M>), NoMemory>
         requires { M.stands machine [] }
-        ensures { IfOk result (λ made. IsPassOf made.0 made.1 × (view made.1 ≡ first_view)) }
+        ensures { IfOk result (λ made. IsPassOf made.0 made.1 × (view made.1 ≡ first_view (M.origin machine))) }
     {
+        let made = Snapshot::of(&machine);
         let held = Held {
             machine,
             history: Vec::new(alloc),
@@ -224,7 +226,7 @@ impl<M: Machine> Turn<M> {
         let Ok(slots) = one_slot(alloc, held) else {
             return Err(NoMemory);
         };
-        let Ok((table, pass)) = Table::new(alloc, &[0, 0, board], slots, &()) else {
+        let Ok((table, pass)) = Table::new(alloc, &[0, 0, board], slots, &made) else {
             return Err(NoMemory);
         };
         Ok((Turn { table }, pass))
@@ -291,6 +293,7 @@ impl<M: Machine> Turn<M> {
     pub fn close<W: Wait>(self, rt: &W, mut pass: Pass<M>) -> (M, History<M::Op, M::Outcome>)
         requires { IsPassOf self pass }
         ensures stands { M.stands result.0 result.1 }
+        ensures origin { M.origin result.0 ≡ (view pass).origin }
         ensures legal { M.legal result.1 }
         ensures whole { Closes M.status_after (view pass) result.1 }
     {

@@ -28,6 +28,7 @@ impl<M: Machine> Held<M, M::Op, M::Outcome> {
         requires allowed { M.allows op }
         requires short { length self.old.history.items ≤ 1048576 }
         ensures stands { M.stands self.new.machine self.new.history.items }
+        ensures origin { M.origin self.new.machine ≡ M.origin self.old.machine }
         ensures ok { IfOk result (λ r. (r.place ≡ length self.old.history.items) × (r.place < 1048576) × (self.new.history.items ≡ self.old.history.items ++ entry op r.outcome ∷ [])) }
         ensures board { IfOk result (λ r. (r.board ≡ length self.new.history.items * 2 ^ 43 + M.status_after self.new.history.items) × (M.status_after self.new.history.items < 2 ^ 43)) }
         ensures refused { IfErr result (Refuses op (length self.old.history.items)) }

@@ -1,6 +1,6 @@
 //! What is so of passes that were seated and joined again. Each law is a function with nothing to do: that its contract is
 //! proved is the law.
-ghost use Rattle.std.specs.Prelude.{◌≡◌};
+ghost use Rattle.std.specs.Prelude.{◌≡◌, List, ℕ};
 ghost use Rattle.turnstile.specs.Joinings.{HasJoinedAll};
 ghost use Rattle.turnstile.specs.Numbers.{AreWhole};
 ghost use Rattle.turnstile.specs.Rules.{Settled, first_view, joined, new_seat, passes_known, with_new_seat};
@@ -14,5 +14,5 @@ pub fn joined_passes_are_whole<M: Machine>()
     ensures none { (before after : PassView M.Op M.Outcome) → after.number ≡ before.number → after.seated ≡ before.seated → after.ended ≡ before.ended → HasJoinedAll before after }
     ensures joined { (before seated own other others after : PassView M.Op M.Outcome) → seated ≡ with_new_seat before → other ≡ new_seat before
         → HasJoinedAll seated own → HasJoinedAll other others → Settled (joined own others) after → HasJoinedAll before after }
-    ensures whole { (first last : PassView M.Op M.Outcome) → first ≡ first_view → HasJoinedAll first last → AreWhole (passes_known last) }
+    ensures whole { (origin : List ℕ) (first last : PassView M.Op M.Outcome) → first ≡ first_view origin → HasJoinedAll first last → AreWhole (passes_known last) }
 {}

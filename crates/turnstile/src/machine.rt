@@ -30,6 +30,9 @@ pub trait Machine: Drop {
     /// The histories that a machine stands for.
     ghost stands: { Self → List (Entry Self.Op Self.Outcome) → Type 0 };
 
+    /// What a machine was made with, which no operation changes: numbers such as a seed.
+    ghost origin: { Self → List ℕ };
+
     /// The histories that may be. A machine stands for no others.
     ghost legal: { List (Entry Self.Op Self.Outcome) → Type 0 };
 
@@ -46,6 +49,7 @@ pub trait Machine: Drop {
         requires allowed { allows op.now }
         ensures twice { IfOk result (λ given. given.0 ≡ given.1) }
         ensures entered { IfOk result (λ given. (history : List (Entry Self.Op Self.Outcome)) → stands self.old history → stands self.new (history ++ entry op.now given.0 ∷ [])) }
+        ensures origin { origin self.new ≡ origin self.old }
         ensures unchanged { OnErr result (self.new ≡ self.old) };
 
     /// The status after the machine's history, a number below 2^43.

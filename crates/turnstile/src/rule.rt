@@ -5,6 +5,7 @@ use crate::view::PassView;
 use atomic_table::{Join, Play, Seat, Split, Table, TableRule};
 use std::alloc::Global;
 use std::marker::PhantomData;
+use std::snapshot::Snapshot;
 
 /// What lies in the slot: the machine with its history, or nothing after the end.
 pub type Slot<M> = Option<Held<M, <M as Machine>::Op, <M as Machine>::Outcome>>;
@@ -17,12 +18,12 @@ pub struct InTurn<M> {
     machine: PhantomData<M>,
 }
 
-impl<M: Machine> TableRule<Slot<M>, ViewOf<M>, ()> for InTurn<M> {
-    ghost use Rattle.turnstile.specs.Rules.{TurnRule, first_view};
+impl<M: Machine> TableRule<Slot<M>, ViewOf<M>, Snapshot<M>> for InTurn<M> {
+    ghost use Rattle.turnstile.specs.Rules.{StandsFrom, TurnRule, first_view};
 
-    ghost holds = { λ _. TurnRule M.stands M.status_after M.legal };
+    ghost holds = { λ made. let origin = M.origin made.value in TurnRule origin (StandsFrom M.stands M.origin origin) M.status_after M.legal };
 
-    ghost first = { λ _. first_view };
+    ghost first = { λ made. first_view (M.origin made.value) };
 }
 
 /// A ticket is drawn: the count of tickets is compared and exchanged.
@@ -40,9 +41,9 @@ pub struct Look<M> {
 }
 
 impl<M: Machine> Play<Slot<M>, ViewOf<M>> for Look<M> {
-    ghost use Rattle.turnstile.specs.Rules.{looked};
+    ghost use Rattle.turnstile.specs.Rules.{StandsFrom, looked};
 
-    ghost then = { looked M.stands M.legal M.status_after };
+    ghost then = { looked (StandsFrom M.stands M.origin) M.legal M.status_after };
 }
 
 /// The entry is shown on the board. From here on it stands in the history.
@@ -78,7 +79,7 @@ impl<M: Machine> Play<Slot<M>, ViewOf<M>> for Glancing<M> {
 pub type Pass<M> = Seat<Slot<M>, ViewOf<M>>;
 
 /// The table of a turn.
-pub type Board<M> = Table<Slot<M>, ViewOf<M>, (), InTurn<M>, Global>;
+pub type Board<M> = Table<Slot<M>, ViewOf<M>, Snapshot<M>, InTurn<M>, Global>;
 
 /// A pass seats another, or takes one in.
 pub struct Seating;

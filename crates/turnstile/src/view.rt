@@ -29,7 +29,7 @@ pub enum Stage {
 
 /// A pass: its stage; its number, which is that of its maker followed by its rank among the passes that its maker seated;
 /// how many passes it seated; the places of its own entries; the history that it has seen; its notes, which are the
-/// lengths and statuses of its glances; and the passes that were joined into it, and theirs.
+/// lengths and statuses of its glances; the passes that were joined into it, and theirs; and the machine's origin.
 pub struct PassView<O, R> {
     pub stage: Stage,
     pub number: LinkedList<u64>,
@@ -40,4 +40,6 @@ pub struct PassView<O, R> {
     pub told: LinkedList<MadeEntry<O, R>>,
     pub notes: LinkedList<(u64, u64)>,
     pub ended: LinkedList<KnownPass>,
+    /// What the machine was made with, which no operation changes.
+    pub origin: LinkedList<u64>,
 }

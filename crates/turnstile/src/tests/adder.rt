@@ -44,6 +44,8 @@ impl Machine for Adder {
 
     ghost stands = { λ (a : Adder) h. AreRunningSums 0 h × (a.total ≡ last_sum 0 h) };
 
+    ghost origin = { λ a. [] };
+
     ghost legal = { λ h. AreRunningSums 0 h };
 
     ghost allows = { λ op. Unit {0} };

@@ -75,7 +75,7 @@ pub fn add_and_close<R: Threads + Wait + Sync>(
     pass: Pass<Adder>,
     count: u64,
 ) -> (Adder, History<u64, u64>)
-    requires { IsPassOf turn pass × (view pass ≡ first_view) }
+    requires { IsPassOf turn pass × (origin : List ℕ) × (view pass ≡ first_view origin) }
     ensures { (passes : List KnownPass) × (log : List (MadeEntry ℕ ℕ)) × (result.1 ≡ entries_of log) × AreWhole passes
         × ((place : ℕ) → place < length log → (i : ℕ) × IsPlaceOf passes place i × ((j : ℕ) → IsPlaceOf passes place j → j ≡ i)) }
 {

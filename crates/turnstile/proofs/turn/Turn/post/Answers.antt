@@ -1,6 +1,6 @@
 use Rattle.std.proofs.Common.{rules, ap, ◌∙◌, ◌∷◌, ◌++◌, ◌+◌, ◌*◌, ◌^◌, ◌≡◌, ℕ, [], length, length-append}
 use lib.ListN.{length-map}
-use Rattle.turnstile.specs.Rules.{entries_of, entry_in}
+use Rattle.turnstile.specs.Rules.{StandsFrom, entries_of, entry_in}
 use Rattle.turnstile.proofs.StepLemmas.{posts}
 use Rattle.turnstile.proofs.turn.Turn.post.Goals as goal
 
@@ -9,7 +9,7 @@ store-requires g c = let M = g.M.Machine in let v = c.args.pass.now.me.0 in let 
     let long : length (entries_of v.seen ++ e.0 ∷ []) ≡ length v.seen + 1 = length-append (entries_of v.seen) (e.0 ∷ []) ∙ ap (λ (z : ℕ). z + 1) (length-map v.seen entry_in) in (
       search rules,
       search rules,
-      posts M.stands M.status_after M.legal _ _ _ h.0 e.0 _ c.requires.pass.1 h.1 h.2 c.requires.short (g.met.M.Machine.legal_if h.0.machine _ h.3) e.1.2
+      posts _ (StandsFrom M.stands M.origin) M.status_after M.legal _ _ _ h.0 e.0 _ c.requires.pass.1 h.1 h.2 c.requires.short (g.met.M.Machine.legal_if h.0.machine _ h.3.0) e.1.2
           (e.1.1 ∙ ap (λ (z : ℕ). z * 2 ^ 43 + M.status_after (entries_of v.seen ++ e.0 ∷ [])) long),
     )
 
