@@ -1,7 +1,7 @@
 -- One step of the pad with its disk, entered at the end of the history.
 use Rattle.std.proofs.Common.{ap, arith, length-append, subst, sym, ◌∙◌}
 use Rattle.std.proofs.lemmas.List.{map-append}
-use Rattle.std.specs.Prelude.{List, [], ℕ, ◌++◌, ◌∷◌, ◌≡◌, ◌≤◌}
+use Rattle.std.specs.Prelude.{IsTrue, List, [], ℕ, ◌++◌, ◌∷◌, ◌≡◌, ◌≤◌}
 use Rattle.disk_core.specs.DiskStates.{DiskState}
 use Rattle.flat_machine.specs.Deeds.{Deed, Takes, after_deeds}
 use Rattle.flat_machine.specs.DiskRuns.{RunOnDisk}
@@ -21,6 +21,7 @@ use Rattle.pad_machine.specs.Runs.{IsPadStep, PadStepOnDisk}
 use Rattle.pad_machine.specs.Stands.{PadState, StandsFor, set_by}
 use Rattle.pad_machine.specs.Twice.{SayAlike}
 use Rattle.pad_machine.specs.declared.pad.Stepped.{Stepped}
+use Rattle.pad_steps.specs.Formed.{is_well_formed}
 use Rattle.pad_steps.specs.declared.answers.Out.{Out}
 use Rattle.pad_steps.specs.declared.steps.DiskWord.{DiskWord}
 use Rattle.pad_steps.specs.declared.steps.Step.{Step}
@@ -54,6 +55,7 @@ stood-step rules seed state after old new step word s t stands stood on =
 
 -- an outcome that tells this step of the pad
 pub record TellsStep (pin_rules : PinRules) (pad : PadState) (step : Step) (stepped : Stepped) (said : List Out) (outcome : StepOut) : Type 0 where
+  pub formed : IsTrue (is_well_formed step)
   pub word : outcome.word ≡ stepped.word
   pub outs : outcome.outs.items ≡ said
   pub masked : (seed : List ℕ) (state : Flat) → StandsFor pad seed state → outcome.masked ≡ is_masked state.shared step
@@ -88,6 +90,7 @@ module _ {D : Type 0} (disk_state : D → DiskState) (pin_rules : PinRules) wher
         let were = old.requests in record {
           seeds = seed-more seed history e old.seeds tells.seed;
           legal = legal-more set opening history e old.legal (record {
+            formed = tells.formed;
             fits = on.fits;
             outs = tells.outs ∙ machine.outs ∙ ap (λ (word : DiskWord). (next set state step word).outs) (sym tells.word);
             masked = tells.masked seed state old.state;

@@ -5,6 +5,7 @@ use Rattle.flat_machine.specs.Settings.{Setting}
 use Rattle.flat_machine.specs.State.{Flat, opening}
 use Rattle.pad_desk.specs.declared.outcome.StepOut.{StepOut}
 use Rattle.pad_machine.specs.Stands.{set_by}
+use Rattle.pad_steps.specs.Formed.{is_well_formed}
 use Rattle.pad_steps.specs.declared.steps.Step.{Step}
 use Rattle.pin_blocks.specs.PinRules.{PinRules}
 use Rattle.std.specs.Prelude.{IsTrue, List, [], map, ℕ, ◌∷◌, ◌≡◌}
@@ -22,8 +23,9 @@ act_of entry = record { step = entry.op; word = entry.outcome.word }
 abbrev pub acts_of : List DeskEntry → List Act
 acts_of history = map act_of history
 
--- in this state the step may have this word, and its outs, whether it is masked, and its fate are those of the machine
+-- the step is well formed, in this state it may have this word, and its outs, whether it is masked, and its fate are those of the machine
 pub record IsEntryAt (set : Setting) (state : Flat) (entry : DeskEntry) : Type 0 where
+  pub formed : IsTrue (is_well_formed entry.op)
   pub fits : IsTrue (fits set state.shared entry.op entry.outcome.word)
   pub outs : entry.outcome.outs.items ≡ (next set state entry.op entry.outcome.word).outs
   pub masked : entry.outcome.masked ≡ is_masked state.shared entry.op

@@ -34,6 +34,13 @@ impl StepOuts {
     {
         self.outs.items()
     }
+
+    /// The outs as a list of their own.
+    pub fn outs(&self) -> &Outs
+        ensures { result.now.items ≡ self.now.items }
+    {
+        &self.outs
+    }
 }
 
 /// What a step came to: what the disk did in it, what it said, whether it was a press of an active digit of a PIN, and how

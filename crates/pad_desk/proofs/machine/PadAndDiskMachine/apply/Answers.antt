@@ -29,7 +29,7 @@ returns-clause-entered g c = λ history stands. stands-more g.D.Disk.state g.W.P
     c.args.self.now.pad c.step_twice.new.self c.args.self.now.disk c.step_twice.new.disk c.args.op.now c.in_ok-first.first c.step_twice.new.out.items
     (subst (λ (before : List Out). IsPadStep g.W.PinWork.rules c.args.self.now.pad c.step_twice.new.self before c.step_twice.new.out.items c.args.op.now c.in_ok-first.first (g.D.Disk.state c.args.self.now.disk) (g.D.Disk.state c.step_twice.new.disk))
     c.in_ok-outs.ensures.none c.in_ok-first.ensures.first)
-    _ (record { word = refl; outs = c.of.ensures.0; masked = c.is_masked-masked.ensures; fate = refl; seed = c.of.ensures.1 ∙ c.seed-seed.ensures }) history stands
+    _ (record { formed = c.requires.allowed; word = refl; outs = c.of.ensures.0; masked = c.is_masked-masked.ensures; fate = refl; seed = c.of.ensures.1 ∙ c.seed-seed.ensures }) history stands
 
 pub returns-clause-origin : goal.returns-clause-origin
 returns-clause-origin g c = let stands = c.requires.room.1 in
