@@ -38,7 +38,7 @@ impl Machine for Adder {
 
     type Outcome = u64;
 
-    ghost use Rattle.std.specs.Prelude.{◌≡◌};
+    ghost use Rattle.std.specs.Prelude.{◌≡◌, []};
     ghost use Rattle.turnstile.specs.RunningSums.{AreRunningSums, last_sum};
     ghost use Rattle.turnstile.specs.declared.tests.adder.Adder.{Adder};
 
