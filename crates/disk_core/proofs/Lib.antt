@@ -5,3 +5,4 @@ pub mod CallLemmas
 pub mod CrashImages
 pub mod MemorySteps
 pub mod FileSteps
+pub mod FlakySteps

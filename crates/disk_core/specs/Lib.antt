@@ -7,3 +7,4 @@ pub mod Disks
 pub mod DiskMemories
 pub mod MemoryDisks
 pub mod FileDisks
+pub mod FlakyDisks

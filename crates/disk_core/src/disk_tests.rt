@@ -139,3 +139,66 @@ fn disk_in_a_file(rt: HostRuntime) -> Result<(), Fail> {
     remove_file(&rt, "disk")?;
     Ok(())
 }
+
+// A call of a disk.
+#[derive(Clone, Copy)]
+enum Step {
+    Read,
+    Write(u8),
+    Sync,
+    Off,
+    On,
+    // Strikes the second call from here on.
+    Arm(Strike),
+}
+
+// Does this to the first byte, and answers what a read gave.
+fn after_step<D: ArmDisk>(disk: &mut D, step: Step) -> Result<u8, DiskError> {
+    let mut byte = [0];
+    match step {
+        Step::Read => disk.read(0, &mut byte)?,
+        Step::Write(new) => disk.write_at(0, &[new])?,
+        Step::Sync => disk.sync()?,
+        Step::Off => disk.off(),
+        Step::On => disk.on(),
+        Step::Arm(strike) => disk.arm(2, strike),
+    }
+    Ok(byte[0])
+}
+
+#[test]
+fn calls_of_a_list_fail(rt: HostRuntime) {
+    let fails = Calls::of(&[4, 7, 9]).expect(&rt, "at most 32 numbers");
+    let mut disk = FlakyDisk::new(MemDisk::new(), fails);
+    let steps: [(Step, Result<u8, DiskError>); 22] = [
+        (Step::Write(1), Ok(0)),
+        (Step::Sync, Ok(0)),
+        (Step::Read, Ok(1)),
+        // The fourth call fails, and the byte before stays.
+        (Step::Write(2), Err(DiskError::Failed)),
+        (Step::Read, Ok(1)),
+        (Step::Write(3), Ok(0)),
+        // The seventh fails, so that the power takes the last write with it.
+        (Step::Sync, Err(DiskError::Failed)),
+        (Step::Read, Ok(3)),
+        (Step::Off, Ok(0)),
+        // These find the disk off, and do not count.
+        (Step::Read, Err(DiskError::Off)),
+        (Step::Write(4), Err(DiskError::Off)),
+        (Step::On, Ok(0)),
+        (Step::Read, Err(DiskError::Failed)),
+        (Step::Read, Ok(1)),
+        // What is armed strikes the disk inside.
+        (Step::Arm(Strike::Fail), Ok(0)),
+        (Step::Sync, Ok(0)),
+        (Step::Sync, Err(DiskError::Failed)),
+        (Step::Arm(Strike::Cut(Keep::New)), Ok(0)),
+        (Step::Sync, Ok(0)),
+        (Step::Write(5), Err(DiskError::Off)),
+        (Step::On, Ok(0)),
+        (Step::Read, Ok(5)),
+    ];
+    for (at, (step, want)) in steps.into_iter().enumerate() {
+        assert_eq!(rt; after_step(&mut disk, step), want, "step {}", at + 1);
+    }
+}
