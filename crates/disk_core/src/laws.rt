@@ -1,9 +1,10 @@
-//! What is so of calls one after another, and of bytes at a place in a list. Each law is a function with nothing to
-//! do: that its contract is proved is the law.
+//! What is so of calls one after another, of the size of a disk, and of bytes at a place in a list. Each law is a
+//! function with nothing to do: that its contract is proved is the law.
 ghost use Rattle.std.specs.Prelude.{◌≡◌, ◌+◌, ◌-◌, ◌≤◌, ◌<◌, ◌⊎◌, ℕ, List, length, slice_index, slice_range, Option, Some, None, false};
 ghost use Rattle.disk_core.specs.DiskStates.{splice, TornWithin};
 ghost use Rattle.disk_core.specs.Disks.{DeviceCalls};
 ghost use Rattle.disk_core.specs.declared.disk.DiskError.{DiskError};
+ghost use Rattle.disk_core.specs.declared.disk.TheConstants.{DISK_BYTES};
 
 use crate::disk::Disk;
 
@@ -15,6 +16,11 @@ pub fn calls_are_runs<D: Disk>()
 
     // A run that ended with a fault counts as any longer one.
     ensures longer { (n m : ℕ) (s t : D) (e : DiskError) → DeviceCalls n (D.state s) (D.state t) (Some e) → DeviceCalls (n + m) (D.state s) (D.state t) (Some e) }
+{}
+
+/// How many bytes a disk has.
+pub fn sizes()
+    ensures disk { DISK_BYTES ≡ 12352 }
 {}
 
 /// What stands where in a list with other elements from a place on.
