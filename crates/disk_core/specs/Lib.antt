@@ -8,3 +8,4 @@ pub mod DiskMemories
 pub mod MemoryDisks
 pub mod FileDisks
 pub mod FlakyDisks
+pub mod HostStreams

@@ -11,6 +11,7 @@ pub mod disk;
 pub mod failing_calls;
 pub mod file_disk;
 pub mod flaky_disk;
+mod host_faults;
 pub mod laws;
 pub mod memory_disk;
 pub mod memory_sink;

@@ -1,52 +1,70 @@
-//! Standard input as a source. No contract can say which bytes it holds, so it tells no content.
-ghost use Rattle.std.specs.Prelude.{◌≡◌};
+//! A reader of the library as a source, as standard input is. A source over a reader that tells its bytes tells them
+//! too. No contract can say which bytes standard input holds, so it tells none.
+ghost use Rattle.std.specs.Prelude.{◌≡◌, OnOk, OnErr};
+ghost use Rattle.disk_core.specs.Causes.{HasCause};
+ghost use Rattle.disk_core.specs.HostStreams.{fresh_host, host_bytes, HostDoes, HostFails};
+ghost use Rattle.disk_core.specs.Streams.{Takes};
 
+use crate::host_faults::count_fault;
 use crate::traits::{Failed, Source};
 use std::io::{Input, Read};
 use std::marker::Model;
+use std::snapshot::Snapshot;
 
-/// Standard input. Contracts see its count of faults.
+/// A reader of the library. Contracts see the reader and its count of faults.
 #[derive(Drop)]
-pub struct StdSource<I> {
+pub struct StdSource<I: Read> {
     input: I,
+    first: Snapshot<I>,
     faults: u64,
 }
 
-impl<I> Model for StdSource<I> {
-    ghost use Rattle.std.specs.Prelude.{ℕ};
+impl<I: Read> Model for StdSource<I> {
+    ghost use Rattle.disk_core.specs.HostStreams.{HostState, StaysTold};
 
-    ghost Value = { ℕ };
+    ghost Value = { HostState I };
 
-    ghost view = { λ s. s.faults };
+    ghost view = { λ s. record { host = s.input; first = s.first.value; faults = s.faults } };
+
+    ghost invariant = { λ s. StaysTold (I.remaining s.first.value) (I.remaining s.input) };
 }
 
 impl<I: Read> StdSource<I> {
-    /// The standard input of `rt`, with no fault yet.
-    pub fn new<R: Input<Reader = I>>(rt: &R) -> StdSource<I>
-        ensures faults { result ≡ 0 }
+    /// This reader, with no fault yet.
+    pub fn of(input: I) -> StdSource<I>
+        ensures { result ≡ fresh_host input }
     {
         StdSource {
-            input: rt.reader(),
+            first: Snapshot::of(&input),
+            input,
             faults: 0,
         }
+    }
+
+    /// The standard input of `rt`, with no fault yet.
+    pub fn new<R: Input<Reader = I>>(rt: &R) -> StdSource<I>
+        ensures faults { result.faults ≡ 0 }
+        ensures first { result.first ≡ result.host }
+    {
+        StdSource::of(rt.reader())
     }
 }
 
 impl<I: Read> Source for StdSource<I> {
-    ghost use Rattle.std.specs.Prelude.{None};
+    ghost use Rattle.disk_core.specs.HostStreams.{host_bytes};
 
-    ghost left = { λ _. None };
+    ghost left = { host_bytes I.remaining };
 
-    ghost faults = { λ s. s };
+    ghost faults = { λ s. s.faults };
 
     /// One read of the host, which keeps no bytes back.
-    fn take(&mut self, piece: &mut [u8]) -> Result<usize, Failed> {
-        match self.input.read(piece) {
-            Ok(n) => Ok(n),
-            Err(_) => {
-                self.faults = self.faults.saturating_add(1);
-                Err(Failed)
-            }
-        }
+    fn take(&mut self, piece: &mut [u8]) -> Result<usize, Failed>
+        ensures taken { Takes (host_bytes I.remaining self.old) (host_bytes I.remaining self.new) piece.old piece.new result }
+        ensures cause { HasCause self.old.faults self.new.faults result }
+        ensures done { OnOk result (HostDoes self.old self.new) }
+        ensures failed { OnErr result (HostFails self.old self.new) }
+    {
+        let done = self.input.read(piece);
+        count_fault(&mut self.faults, done)
     }
 }

@@ -133,6 +133,12 @@ fn standard_input(rt: HostRuntime) {
     assert_eq!(rt; source.take(&mut piece), Ok(2));
     assert_eq!(rt; piece, [97, 98, 0, 0]);
     assert_eq!(rt; source.take(&mut piece), Err(Failed));
+
+    let mut source = StdSource::of(b"abcde".as_slice());
+    assert_eq!(rt; source.take(&mut piece), Ok(4));
+    assert_eq!(rt; piece, *b"abcd");
+    assert_eq!(rt; source.take(&mut piece), Ok(1));
+    assert_eq!(rt; source.take(&mut piece), Ok(0));
 }
 
 #[test]
