@@ -1,50 +1,73 @@
-//! Standard output as a sink. No contract can say which bytes reach it, so it tells no content.
-ghost use Rattle.std.specs.Prelude.{◌≡◌};
+//! A writer of the library as a sink, as standard output is. A sink over a writer that tells its bytes tells them too.
+//! No contract can say which bytes reach standard output, so it tells none.
+ghost use Rattle.std.specs.Prelude.{◌≡◌, OnOk, OnErr};
+ghost use Rattle.disk_core.specs.Causes.{HasCause};
+ghost use Rattle.disk_core.specs.HostStreams.{fresh_host, host_bytes, HostDoes, HostFails};
+ghost use Rattle.disk_core.specs.Streams.{Gives};
 
+use crate::host_faults::count_fault;
 use crate::traits::{Failed, Sink};
-use std::io::Print;
+use std::io::{Print, Printer, Write, writer};
 use std::marker::Model;
+use std::snapshot::Snapshot;
 
-/// Standard output. Contracts see its count of faults.
+/// A writer of the library. Contracts see the writer and its count of faults.
 #[derive(Drop)]
-pub struct StdSink<'a, R> {
-    rt: &'a R,
+pub struct StdSink<W: Write> {
+    output: W,
+    first: Snapshot<W>,
     faults: u64,
 }
 
-impl<'a, R> Model for StdSink<'a, R> {
-    ghost use Rattle.std.specs.Prelude.{ℕ};
+impl<W: Write> Model for StdSink<W> {
+    ghost use Rattle.disk_core.specs.HostStreams.{HostState, StaysTold};
 
-    ghost Value = { ℕ };
+    ghost Value = { HostState W };
 
-    ghost view = { λ s. s.faults };
+    ghost view = { λ s. record { host = s.output; first = s.first.value; faults = s.faults } };
+
+    ghost invariant = { λ s. StaysTold (W.contents s.first.value) (W.contents s.output) };
 }
 
-impl<'a, R: Print> StdSink<'a, R> {
-    /// The standard output of `rt`, with no fault yet.
-    pub fn new(rt: &'a R) -> StdSink<'a, R>
-        ensures faults { result ≡ 0 }
+impl<W: Write> StdSink<W> {
+    /// This writer, with no fault yet.
+    pub fn of(output: W) -> StdSink<W>
+        ensures { result ≡ fresh_host output }
     {
-        StdSink { rt, faults: 0 }
+        StdSink {
+            first: Snapshot::of(&output),
+            output,
+            faults: 0,
+        }
     }
 }
 
-impl<R: Print> Sink for StdSink<'_, R> {
-    ghost use Rattle.std.specs.Prelude.{None};
+impl<'a, R: Print> StdSink<Printer<'a, R>> {
+    /// The standard output of `rt`, with no fault yet.
+    pub fn new(rt: &'a R) -> StdSink<Printer<'a, R>>
+        ensures faults { result.faults ≡ 0 }
+        ensures first { result.first ≡ result.host }
+    {
+        StdSink::of(writer(rt))
+    }
+}
 
-    ghost given = { λ _. None };
+impl<W: Write> Sink for StdSink<W> {
+    ghost use Rattle.disk_core.specs.HostStreams.{host_bytes};
 
-    ghost faults = { λ s. s };
+    ghost given = { host_bytes W.contents };
 
-    /// One write of the host. There is no buffer, so nothing is left to be flushed: the bytes that it
+    ghost faults = { λ s. s.faults };
+
+    /// One write of the host. Standard output has no buffer, so nothing is left to be flushed: the bytes that it
     /// answers have been handed to the system.
-    fn give(&mut self, piece: &[u8]) -> Result<usize, Failed> {
-        match self.rt.write_some(piece) {
-            Ok(n) => Ok(n),
-            Err(_) => {
-                self.faults = self.faults.saturating_add(1);
-                Err(Failed)
-            }
-        }
+    fn give(&mut self, piece: &[u8]) -> Result<usize, Failed>
+        ensures gives { Gives (host_bytes W.contents self.old) (host_bytes W.contents self.new) piece.now result }
+        ensures cause { HasCause self.old.faults self.new.faults result }
+        ensures done { OnOk result (HostDoes self.old self.new) }
+        ensures failed { OnErr result (HostFails self.old self.new) }
+    {
+        let done = self.output.write(piece);
+        count_fault(&mut self.faults, done)
     }
 }

@@ -145,4 +145,5 @@ fn standard_input(rt: HostRuntime) {
 fn standard_output(rt: HostRuntime) {
     assert_eq!(rt; StdSink::new(&rt).give(b"given\n"), Ok(6));
     assert_eq!(rt; StdSink::new(&FaultyHost).give(b"given\n"), Err(Failed));
+    assert_eq!(rt; StdSink::of(Vec::new(rt.alloc())).give(b"given\n"), Ok(6));
 }
