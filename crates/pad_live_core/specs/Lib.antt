@@ -1,3 +1,4 @@
+pub mod HistoryTexts
 pub mod Statuses
 pub mod Shuffles
 pub mod LaneEvents
