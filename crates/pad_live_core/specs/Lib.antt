@@ -1,3 +1,4 @@
+pub mod CommandLine
 pub mod HistoryTexts
 pub mod Statuses
 pub mod Shuffles

@@ -1,9 +1,7 @@
 -- The words of the command line.
-use Rattle.std.specs.Prelude.{Bool, Err, List, None, Ok, Option, Result, Some, [], codes, if◌then◌else◌, is_some, length, option_map, replicate, string_bytes, ℕ, ◌&&◌, ◌==◌, ◌∷◌}
-use Rattle.hex.specs.Hex.{decode_sized}
-use Rattle.hex.specs.declared.error.FromHexError.{FromHexError}
+use Rattle.std.specs.Prelude.{Bool, List, None, Option, Some, [], codes, if◌then◌else◌, is_some, length, option_map, string_bytes, ℕ, ◌&&◌, ◌==◌, ◌∷◌}
+pub use Rattle.command_words.specs.CommandWords.{is_word, seed_of, zero_seed}
 use Rattle.script_lang.specs.Reading.{read_number}
-use Rattle.std.specs.Str.{bytes_eq}
 use Rattle.std.specs.Global.{Global}
 use Rattle.std.specs.declared.string.String.{String}
 
@@ -12,25 +10,9 @@ pub data Asked : Type 0 where
   Replays : Option (List ℕ) → List ℕ → Asked
   Generates : ℕ → Asked
 
--- the seed where none is given: 32 zero bytes
-abbrev pub zero_seed : List ℕ
-zero_seed = replicate 32 0
-
--- the word is this text
-abbrev pub is_word : String Global → List ℕ → Bool
-is_word word text = bytes_eq (string_bytes word) text
-
 -- a path, where it is not empty
 abbrev pub path_of : List ℕ → Option (List ℕ)
 path_of text = if length text == 0 then None else Some text
-
-abbrev pub decoded : Result (List ℕ) FromHexError → Option (List ℕ)
-decoded (Ok bytes) = Some bytes
-decoded (Err fault) = None
-
--- the 32 bytes of a seed, of 64 hexadecimal digits in either case
-abbrev pub seed_of : List ℕ → Option (List ℕ)
-seed_of text = decoded (decode_sized text 32)
 
 -- a store, and a seed
 abbrev pub with_path : List ℕ → Option (List ℕ) → Option Asked

@@ -1,9 +1,10 @@
 // The words of the command line.
 ghost use Rattle.std.specs.Prelude.{◌≡◌, ◌≤◌, IfSome, is_some};
 ghost use Rattle.std.specs.Option.{option_copied, option_map};
-ghost use Rattle.pad_replay.specs.CommandLine.{asked_behind, asked_by, asked_by_one, generated_behind, is_form, is_word, path_in, path_of, rounds_of, seed_of};
+ghost use Rattle.pad_replay.specs.CommandLine.{asked_behind, asked_by, asked_by_one, generated_behind, is_form, path_in, path_of, rounds_of};
 ghost use Rattle.pad_replay.specs.Asked.{HasFewRounds, asked_of};
 
+use command_words::{is_word, seed_of};
 use script_lang::read_number;
 
 /// What the words ask for.
@@ -89,27 +90,9 @@ fn request_by_one<'w>(word: &String, value: &'w str) -> Option<Request<'w>>
     None
 }
 
-// The word is this text.
-fn is_word(word: &String, text: &str) -> bool
-    ensures { result ≡ is_word word.now text.now }
-{
-    word.as_str() == text
-}
-
 // A path, where it is not empty.
 fn path_of(text: &str) -> Option<&str>
     ensures { option_copied result ≡ path_of text.now }
 {
     if text.is_empty() { None } else { Some(text) }
-}
-
-// The 32 bytes of a seed, of 64 hexadecimal digits.
-fn seed_of(text: &str) -> Option<[u8; 32]>
-    ensures { result ≡ seed_of text.now }
-{
-    let mut seed = [0; 32];
-    match hex::decode_to_slice(text, &mut seed) {
-        Ok(()) => Some(seed),
-        Err(_) => None,
-    }
 }
