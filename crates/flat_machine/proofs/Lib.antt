@@ -2,6 +2,7 @@ pub mod AccessRuns
 pub mod Accusations
 pub mod AnswersAlone
 pub mod ArmLemmas
+pub mod BadStores
 pub mod BlockForms
 pub mod BlockReleases
 pub mod BoolLemmas
@@ -54,6 +55,7 @@ pub mod LengthLemmas
 pub mod LengthRuns
 pub mod LineLemmas
 pub mod LineMoves
+pub mod LoadedRows
 pub mod LoadingWork
 pub mod LockRuns
 pub mod OverdueRuns

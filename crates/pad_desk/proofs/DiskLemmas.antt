@@ -17,12 +17,12 @@ use Rattle.pad_machine.specs.Stands.{PadState, set_by}
 use Rattle.pin_blocks.specs.PinRules.{PinRules}
 
 -- a fact of each, where there is one
-if_some-all : {A : Type 0} (o : Option A) {P : Type 0} → P → IfSome o (λ _. P)
+pub if_some-all : {A : Type 0} (o : Option A) {P : Type 0} → P → IfSome o (λ _. P)
 if_some-all None all = tt
 if_some-all (Some x) all = all
 
 -- what follows where the one is there, which is where the other is
-both_told : {A : Type 0} (o p : Option A) {P Q R : Type 0} → is_some o ≡ is_some p → IfSome o (λ _. P) → IfSome p (λ _. Q) → (P → Q → R) → IfSome o (λ _. R)
+pub both_told : {A : Type 0} (o p : Option A) {P Q R : Type 0} → is_some o ≡ is_some p → IfSome o (λ _. P) → IfSome p (λ _. Q) → (P → Q → R) → IfSome o (λ _. R)
 both_told None p same first second follows = tt
 both_told (Some x) None same first second follows = absurd cc
 both_told (Some x) (Some y) same first second follows = follows first second
@@ -50,4 +50,5 @@ module _ {D : Type 0} (disk_state : D → DiskState) (pin_rules : PinRules) wher
         unread = λ none. both_told t.content s.content on.tells (unloaded set opening deeds stands.first disk refl refl none on) stands.fresh.images (λ same zero bytes image. zero bytes (same bytes image));
         shows = subst (λ (acts : List Act). EachImage t (ShowsKeys key_layout (run_from set opening acts).shared)) acts (on.shows (if_some-all s.content (λ bytes image loaded. absurd cc)));
         calm = both_told t.content s.content on.tells (if_some-all t.content tt) (on.calm (if_some-all s.content (λ bytes image loaded. absurd cc))) (λ (_ : Unit {0}) calm. calm);
+        good = stands.good;
       }

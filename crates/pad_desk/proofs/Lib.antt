@@ -1,5 +1,6 @@
 pub mod AnswerLemmas
 pub mod DiskLemmas
+pub mod GoodWords
 pub mod HistoryLemmas
 pub mod OpeningLemmas
 pub mod SendLemmas

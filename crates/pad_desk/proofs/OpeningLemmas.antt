@@ -11,6 +11,7 @@ use Rattle.flat_machine.specs.KeyLayout.{key_layout}
 use Rattle.flat_machine.specs.Kept.{Kept}
 use Rattle.flat_machine.specs.Settings.{Setting}
 use Rattle.flat_machine.specs.State.{Flat, opening}
+use Rattle.pad_desk.proofs.DiskLemmas.{if_some-all}
 use Rattle.pad_desk.specs.Machines.{IsFreshDisk, Stands}
 use Rattle.pad_desk.specs.declared.machine.PadAndDisk.{PadAndDisk}
 use Rattle.pad_machine.specs.Runs.{PadIsTied}
@@ -37,6 +38,7 @@ stands-opening disk_state pin_rules pad disk stands fresh none = record {
   first = disk;
   fresh = fresh;
   on_disk = none (set_by pin_rules pad.kept.seed) opening disk;
+  good = if_some-all (disk_state disk).content tt;
 }
 
 -- machines with equal parts are equal

@@ -13,6 +13,7 @@ use Rattle.flat_machine.specs.Power.{word_fate}
 use Rattle.flat_machine.specs.RequestFacts.{draws}
 use Rattle.flat_machine.specs.Settings.{Setting}
 use Rattle.flat_machine.specs.State.{Flat, opening}
+use Rattle.pad_desk.proofs.GoodWords.{StoreFacts, good-more}
 use Rattle.pad_desk.proofs.HistoryLemmas.{acts_in-deeds_of, legal-more, run-more, seed-more}
 use Rattle.pad_desk.specs.Histories.{DeskEntry, act_of, acts_of}
 use Rattle.pad_desk.specs.Machines.{Stands, StandsIn, deeds_of}
@@ -73,7 +74,7 @@ module _ {D : Type 0} (disk_state : D → DiskState) (pin_rules : PinRules) wher
   StepRuns = (set : Setting) (state : Flat) (act : Act) (s t : D) → StepOnDisk key_layout set state.shared (next set state act.step act.word).state.shared act.step act.word (disk_state s) (disk_state t)
       → RunOnDisk key_layout set state (Takes act ∷ []) (disk_state s) (disk_state t)
 
-  module _ (joins : RunsJoin) (runs : StepRuns) (pad new : PadState) (disk after : D) (step : Step) (stepped : Stepped) (outs : List Out)
+  module _ (joins : RunsJoin) (runs : StepRuns) (facts : StoreFacts disk_state pin_rules) (pad new : PadState) (disk after : D) (step : Step) (stepped : Stepped) (outs : List Out)
       (done : IsPadStep pin_rules pad new [] outs step stepped (disk_state disk) (disk_state after)) (outcome : StepOut) (tells : TellsStep pin_rules pad step stepped outs outcome) where
     stands-in : (history : List DeskEntry) → StandsIn disk_state pin_rules pad.kept.seed pad disk history → StandsIn disk_state pin_rules pad.kept.seed new after (history ++ entry step outcome ∷ [])
     stands-in history old =
@@ -105,6 +106,7 @@ module _ {D : Type 0} (disk_state : D → DiskState) (pin_rules : PinRules) wher
               (joins set opening (deeds_of history) (Takes (act_of e) ∷ []) old.first disk after old.on_disk
               (subst (λ (before : Flat). RunOnDisk key_layout set before (Takes (act_of e) ∷ []) (disk_state disk) (disk_state after)) (sym (ap (run set) (acts_in-deeds_of history)))
               (runs set state (act_of e) disk after on)));
+          good = good-more disk_state pin_rules facts seed pad disk after history old (next set state step outcome.word).state.shared step e on;
         }
 
     pub stands-more : (history : List DeskEntry) → Stands disk_state pin_rules pad disk history → Stands disk_state pin_rules new after (history ++ entry step outcome ∷ [])

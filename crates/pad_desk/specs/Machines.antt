@@ -13,7 +13,8 @@ use Rattle.pad_desk.specs.Histories.{DeskEntry, HasSeed, LegalFrom, act_of, acts
 use Rattle.pad_machine.specs.Runs.{PadIsTied}
 use Rattle.pad_machine.specs.Stands.{PadState, StandsFor, set_by}
 use Rattle.pin_blocks.specs.PinRules.{PinRules}
-use Rattle.std.specs.Prelude.{IfSome, List, false, length, map, replicate, ℕ, ◌≡◌, ◌≤◌}
+use Rattle.pad_steps.specs.declared.steps.DiskWord.TheVariants as words
+use Rattle.std.specs.Prelude.{IfSome, List, [], false, length, map, replicate, ℕ, ◌∷◌, ◌≡◌, ◌≢◌, ◌≤◌}
 
 -- the bytes of a new disk
 abbrev pub zero_bytes : List ℕ
@@ -29,6 +30,11 @@ pub record IsFreshDisk (disk : DiskState) : Type 0 where
 abbrev pub deeds_of : List DeskEntry → List Deed
 deeds_of history = map (λ (entry : DeskEntry). Takes (act_of entry)) history
 
+-- no word of the history says that the store reads as bad
+abbrev pub HasNoBadWord : List DeskEntry → Type 0
+HasNoBadWord [] = Unit {0}
+HasNoBadWord (entry ∷ rest) = ((slot : ℕ) → entry.outcome.word ≢ words.Bad slot) × HasNoBadWord rest
+
 module _ {D : Type 0} (disk_state : D → DiskState) (pin_rules : PinRules) where
   -- in a run of this seed, pad and disk came from the opening and a fresh disk by this history
   pub record StandsIn (seed : List ℕ) (pad : PadState) (disk : D) (history : List DeskEntry) : Type 0 where
@@ -43,6 +49,7 @@ module _ {D : Type 0} (disk_state : D → DiskState) (pin_rules : PinRules) wher
     pub first : D
     pub fresh : IsFreshDisk (disk_state first)
     pub on_disk : RunOnDisk key_layout (set_by pin_rules seed) opening (deeds_of history) (disk_state first) (disk_state disk)
+    pub good : IfSome (disk_state disk).content (λ _. HasNoBadWord history)
 
   -- pad and disk stand for the history
   abbrev pub Stands : PadState → D → List DeskEntry → Type 0
@@ -58,5 +65,7 @@ pub record HistoryOnDisk (set : Setting) (history : List DeskEntry) (disk : Disk
   pub unread : loads_rows (deeds_of history) ≡ false → EachImage disk (λ bytes. bytes ≡ zero_bytes)
   -- once rows were loaded, each image shows the rows that are kept, or these with the slot in doubt replaced
   pub shows : EachImage disk (ShowsKeys key_layout (run set (acts_of history)).shared)
-  -- no store reads as bad after a loading, and no fate is other
+  -- no fate is other
   pub calm : IfSome disk.content (λ _. CalmFrom set opening (deeds_of history))
+  -- the store never reads as bad: neither the zero bytes nor what was written has a bad slot
+  pub good : IfSome disk.content (λ _. HasNoBadWord history)

@@ -5,7 +5,10 @@ ghost use Rattle.pad_machine.specs.Stands.{StandsFor};
 
 use crate::outcome::{StepOut, StepOuts};
 use disk_core::PowerDisk;
-use flat_machine::laws::disk_runs::{disk_runs_join, key_layout_tells_apart};
+use flat_machine::laws::disk_runs::{
+    bad_stores_were_read, disk_runs_join, key_layout_tells_apart, loaded_rows_are_known,
+    store_history_goes_on, zero_bytes_have_no_bad_slot,
+};
 use pad_machine::Pad;
 use pad_steps::{Outs, Step};
 use pad_words::NoMemory;
@@ -67,6 +70,10 @@ impl<W: PinWork + Drop, D: PowerDisk + Drop> Machine for PadAndDisk<W, D> {
     fn apply(&mut self, op: &Step) -> Result<(StepOut, StepOut), NoMemory> {
         disk_runs_join::<D>();
         key_layout_tells_apart();
+        store_history_goes_on::<D>();
+        loaded_rows_are_known();
+        bad_stores_were_read::<D>();
+        zero_bytes_have_no_bad_slot();
         let mut outs = Outs::new(self.alloc)?;
         let mut again = Outs::new(self.alloc)?;
         let masked = self.pad.is_masked(op);

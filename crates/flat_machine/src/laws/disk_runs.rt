@@ -1,20 +1,25 @@
 //! The record that is carried along a run over a disk: of nothing, of an arming, of a step, and of one run after another.
 //! Each law is a function with nothing to do.
-ghost use Rattle.std.specs.Prelude.{◌≡◌, ◌++◌, ◌∷◌, [], List, false, ℕ};
+ghost use Rattle.std.specs.Prelude.{◌≡◌, ◌++◌, ◌∷◌, [], IfSome, IsTrue, List, None, Some, false, replicate, true, ℕ};
 ghost use Rattle.disk_core.specs.DiskStates.{EachImage};
 ghost use Rattle.disk_core.specs.Disks.{ArmsDisk};
 ghost use Rattle.disk_core.specs.declared.disk.Strike.{Strike};
-ghost use Rattle.flat_machine.specs.Deeds.{Arms, Deed, Takes, acts_in, after_deeds, loads_rows};
+ghost use Rattle.disk_core.specs.declared.disk.TheConstants.{DISK_BYTES};
+ghost use Rattle.flat_machine.specs.Deeds.{Arms, Deed, FitsDeeds, Takes, acts_in, after_deeds, loads_rows};
 ghost use Rattle.flat_machine.specs.DiskFacts.{TellsApart};
 ghost use Rattle.flat_machine.specs.DiskRuns.{NonePendingOff, RunOnDisk};
-ghost use Rattle.flat_machine.specs.DiskSteps.{StepOnDisk};
+ghost use Rattle.flat_machine.specs.DiskSteps.{ShowsKeys, StepOnDisk};
 ghost use Rattle.flat_machine.specs.KeyLayout.{key_layout};
 ghost use Rattle.flat_machine.specs.Machine.{Act, next, run};
 ghost use Rattle.flat_machine.specs.Settings.{Setting};
-ghost use Rattle.flat_machine.specs.State.{Flat, is_ready};
+ghost use Rattle.flat_machine.specs.State.{Flat, Shared, is_ready};
 ghost use Rattle.flat_machine.specs.StoreHistory.{Holds, HoldsFrom, Layout, These};
+ghost use Rattle.pad_steps.specs.declared.steps.DiskWord.TheVariants as words;
+ghost use Rattle.pad_steps.specs.declared.steps.Step.{Step};
 
 use disk_core::Disk;
+use key_record::laws::records_are_read_back;
+use key_table::laws::bytes_show_rows;
 
 /// Runs join: nothing, one step, one arming, and one run after another.
 pub fn disk_runs_join<D: Disk>()
@@ -35,6 +40,31 @@ pub fn disk_runs_join<D: Disk>()
 /// No bytes of the pad's store show rows and have a bad slot.
 pub fn key_layout_tells_apart()
     ensures { TellsApart key_layout }
+{}
+
+/// Zero bytes have no bad slot.
+pub fn zero_bytes_have_no_bad_slot()
+    ensures { key_layout.bad_slot (replicate DISK_BYTES 0) ≡ None }
+{
+    records_are_read_back();
+    bytes_show_rows();
+}
+
+/// A store reads as bad at the lowest bad slot of bytes that were an image before the step; and where the images show the
+/// kept rows, or these with the slot in doubt replaced, only before rows were loaded.
+pub fn bad_stores_were_read<D: Disk>()
+    ensures bytes { (layout : Layout) (set : Setting) (before after : Shared) (step : Step) (slot : ℕ) (s t : D) →
+        StepOnDisk layout set before after step (words.Bad slot) (D.state s) (D.state t) →
+        IfSome (D.state s).content (λ _. (bytes : List ℕ) × (D.state s).image bytes × (layout.bad_slot bytes ≡ Some slot)) }
+    ensures unloaded { (layout : Layout) (set : Setting) (before after : Shared) (step : Step) (slot : ℕ) (s t : D) →
+        TellsApart layout → StepOnDisk layout set before after step (words.Bad slot) (D.state s) (D.state t) →
+        EachImage (D.state s) (ShowsKeys layout before) → IfSome (D.state s).content (λ _. before.loaded ≡ false) }
+{}
+
+/// Once rows were loaded in a run, the machine knows it after the run.
+pub fn loaded_rows_are_known()
+    ensures { (set : Setting) (state : Flat) (deeds : List Deed) → FitsDeeds set state deeds →
+        IsTrue (loads_rows deeds) → (after_deeds set state deeds).shared.loaded ≡ true }
 {}
 
 /// Until rows are loaded, from a device that is not ready, the history of the store leaves the bytes as they are.

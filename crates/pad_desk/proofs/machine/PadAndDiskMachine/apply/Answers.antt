@@ -26,6 +26,13 @@ pub returns-clause-entered : goal.returns-clause-entered
 returns-clause-entered g c = λ history stands. stands-more g.D.Disk.state g.W.PinWork.rules
     (λ set state first second s t u. c.disk_runs_join.ensures.joined key_layout set state first second s t u)
     (λ set state act s t on. c.disk_runs_join.ensures.step key_layout set state act s t c.key_layout_tells_apart.ensures on)
+    (record {
+      zero = c.zero_bytes_have_no_bad_slot.ensures;
+      unloaded = λ set state deeds s t. c.store_history_goes_on.ensures.unloaded key_layout set state deeds s t;
+      loaded = c.loaded_rows_are_known.ensures;
+      bad = λ set before after step slot s t. c.bad_stores_were_read.ensures.bytes key_layout set before after step slot s t;
+      bad_unloaded = λ set before after step slot s t. c.bad_stores_were_read.ensures.unloaded key_layout set before after step slot s t c.key_layout_tells_apart.ensures;
+    })
     c.args.self.now.pad c.step_twice.new.self c.args.self.now.disk c.step_twice.new.disk c.args.op.now c.in_ok-first.first c.step_twice.new.out.items
     (subst (λ (before : List Out). IsPadStep g.W.PinWork.rules c.args.self.now.pad c.step_twice.new.self before c.step_twice.new.out.items c.args.op.now c.in_ok-first.first (g.D.Disk.state c.args.self.now.disk) (g.D.Disk.state c.step_twice.new.disk))
     c.in_ok-outs.ensures.none c.in_ok-first.ensures.first)
