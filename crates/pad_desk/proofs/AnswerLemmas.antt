@@ -1,13 +1,15 @@
 -- What the last entry of a legal history says.
-use Rattle.std.proofs.Common.{ap, refl, subst, ◌∙◌}
+use Rattle.std.proofs.Common.{ap, arith, length-append, refl, subst, sym, ◌∙◌}
+use Rattle.std.proofs.Math.Seq.{take-append_seam}
 use Rattle.std.proofs.lemmas.List.{map-append}
-use Rattle.std.specs.Prelude.{Bool, List, None, Option, Some, [], false, if◌then◌else◌, true, ℕ, ◌++◌, ◌∷◌, ◌≡◌}
+use Rattle.std.specs.Prelude.{Bool, List, None, Option, Some, [], false, if◌then◌else◌, length, take, true, ℕ, ◌++◌, ◌-◌, ◌∷◌, ◌≡◌}
 use Rattle.flat_machine.specs.Machine.{next, run_from}
 use Rattle.flat_machine.specs.RequestSteps.{submit_by, submit_refusal, told_request}
 use Rattle.flat_machine.specs.Settings.{Setting}
 use Rattle.flat_machine.specs.State.{Flat, Said, Shared, opening, says}
 use Rattle.pad_desk.specs.Answers.{collect_out, submit_out}
-use Rattle.pad_desk.specs.Histories.{DeskEntry, IsEntryAt, Legal, LegalFrom, acts_of, setting_of, status_after}
+use Rattle.pad_desk.specs.Histories.{DeskEntry, IsEntryAt, Legal, LegalFrom, acts_of, setting_of, state_after, status_after}
+use Rattle.pad_desk.specs.Pending.{state_before}
 use Rattle.pad_desk.specs.declared.answers.Collected.TheVariants as collected
 use Rattle.pad_desk.specs.declared.answers.Collected.{Collected}
 use Rattle.pad_desk.specs.declared.answers.Submitted.TheVariants as submitted
@@ -38,23 +40,29 @@ legal-last : (set : Setting) (state : Flat) (history : List DeskEntry) (last : D
 legal-last set state [] last legal = legal.0
 legal-last set state (first ∷ rest) last legal = legal-last set (next set state first.op first.outcome.word).state rest last legal.1
 
--- the entry is that of the machine in some state
-pub record IsEntrySomewhere (last : DeskEntry) : Type 0 where
-  pub set : Setting
-  pub state : Flat
-  pub is : IsEntryAt set state last
+-- the state before the last entry, which is of one run with it
+state-front : (pin_rules : PinRules) (front : List DeskEntry) (last : DeskEntry) → run_from (setting_of pin_rules (front ++ last ∷ [])) opening (acts_of front) ≡ state_after pin_rules front
+state-front pin_rules [] last = refl
+state-front pin_rules (first ∷ rest) last = refl
 
--- the entry just made is that of the machine
-entered-last : (pin_rules : PinRules) (before after : PassView Step StepOut) (place : ℕ) (step : Step) (outcome : StepOut) → Enters (Legal pin_rules) (status_after pin_rules) before place step outcome after → IsEntrySomewhere (entry step outcome)
+front-take : (seen : List (MadeEntry Step StepOut)) (made : MadeEntry Step StepOut) → take (length (seen ++ made ∷ []) - 1) (seen ++ made ∷ []) ≡ seen
+front-take seen made =
+    let size : length (seen ++ made ∷ []) - 1 ≡ length seen = omega (arith, length-append seen (made ∷ [])) in
+    ap (λ (n : ℕ). take n (seen ++ made ∷ [])) size ∙ take-append_seam seen (made ∷ [])
+
+-- the entry just made is that of the machine in the state before it
+pub entered-last : (pin_rules : PinRules) (before after : PassView Step StepOut) (place : ℕ) (step : Step) (outcome : StepOut) → Enters (Legal pin_rules) (status_after pin_rules) before place step outcome after
+    → IsEntryAt (setting_of pin_rules (entries_of after.seen)) (state_before pin_rules after) (entry step outcome)
 entered-last pin_rules before after place step outcome enters =
     let set : Setting = setting_of pin_rules (entries_of after.seen) in
-    let made : MadeEntry Step StepOut = made_by before.number (entry step outcome) in
-    let seen : List (MadeEntry Step StepOut) = before.seen ++ enters.between in record {
-      set = set;
-      state = run_from set opening (acts_of (entries_of seen));
-      is = legal-last set opening (entries_of seen) (entry step outcome)
-          (subst (λ (history : List DeskEntry). LegalFrom set opening history) (ap entries_of enters.seen ∙ map-append entry_in seen (made ∷ [])) enters.lawful.entries);
-    }
+    let last : DeskEntry = entry step outcome in
+    let made : MadeEntry Step StepOut = made_by before.number last in
+    let seen : List (MadeEntry Step StepOut) = before.seen ++ enters.between in
+    let whole : entries_of after.seen ≡ entries_of seen ++ last ∷ [] = ap entries_of enters.seen ∙ map-append entry_in seen (made ∷ []) in
+    let front : take (length after.seen - 1) after.seen ≡ seen = ap (λ (l : List (MadeEntry Step StepOut)). take (length l - 1) l) enters.seen ∙ front-take seen made in
+    let state : run_from set opening (acts_of (entries_of seen)) ≡ state_before pin_rules after =
+    ap (λ (l : List DeskEntry). run_from (setting_of pin_rules l) opening (acts_of (entries_of seen))) whole ∙ state-front pin_rules (entries_of seen) last ∙ ap (λ (l : List (MadeEntry Step StepOut)). state_after pin_rules (entries_of l)) (sym front) in
+    subst (λ (h : Flat). IsEntryAt set h last) state (legal-last set opening (entries_of seen) last (subst (λ (history : List DeskEntry). LegalFrom set opening history) whole enters.lawful.entries))
 
 -- a Submit says its id or why it is refused
 module _ (session : Session) where
@@ -74,7 +82,7 @@ module _ (session : Session) where
 
   pub submit-told : (pin_rules : PinRules) (before after : PassView Step StepOut) (place limit : ℕ) (command : Command) (outcome : StepOut) → Enters (Legal pin_rules) (status_after pin_rules) before place (steps.Submit session limit command) outcome after → SaysSubmitted outcome.outs.items
   submit-told pin_rules before after place limit command outcome enters =
-      let last = entered-last pin_rules before after place (steps.Submit session limit command) outcome enters in submit-says last.set last.state limit command outcome last.is
+      submit-says (setting_of pin_rules (entries_of after.seen)) (state_before pin_rules after) limit command outcome (entered-last pin_rules before after place (steps.Submit session limit command) outcome enters)
 
   found-by : (id : ℕ) (found : Found Reply) (shared : Shared) → SaysCollected id (says shared (out.Told session (told_request id found))).outs
   found-by id Nowhere shared = (collected.Refused refusals.InvalidReqId, refl)
@@ -91,4 +99,4 @@ module _ (session : Session) where
 
   pub collect-told : (pin_rules : PinRules) (before after : PassView Step StepOut) (place id : ℕ) (outcome : StepOut) → Enters (Legal pin_rules) (status_after pin_rules) before place (steps.Ask session (asked.Reply id)) outcome after → SaysCollected id outcome.outs.items
   collect-told pin_rules before after place id outcome enters =
-      let last = entered-last pin_rules before after place (steps.Ask session (asked.Reply id)) outcome enters in ask-says last.set last.state id outcome last.is
+      ask-says (setting_of pin_rules (entries_of after.seen)) (state_before pin_rules after) id outcome (entered-last pin_rules before after place (steps.Ask session (asked.Reply id)) outcome enters)

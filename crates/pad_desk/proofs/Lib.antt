@@ -3,6 +3,7 @@ pub mod DiskLemmas
 pub mod GoodWords
 pub mod HistoryLemmas
 pub mod OpeningLemmas
+pub mod PendingLemmas
 pub mod SendLemmas
 pub mod StatusLemmas
 pub mod StepLemmas

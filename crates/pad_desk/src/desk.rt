@@ -1,11 +1,13 @@
 //! Steps of one pad from any thread.
-ghost use Rattle.std.specs.Prelude.{◌≡◌, ◌<◌, ◌≤◌, ◌^◌, ◌++◌, ◌∷◌, [], IfErr, IfOk, IsTrue, OnErr, length};
+ghost use Rattle.std.specs.Prelude.{◌≡◌, ◌↔◌, ◌<◌, ◌≤◌, ◌^◌, ◌++◌, ◌∷◌, [], IfErr, IfOk, IsTrue, OnErr, length};
 ghost use Rattle.disk_core.specs.DiskStates.{DiskState};
 ghost use Rattle.flat_machine.specs.State.{opening};
 ghost use Rattle.pad_desk.specs.Answers.{AnswersWith, DueRefused, Works, collect_out, submit_out};
 ghost use Rattle.pad_desk.specs.Desks.{noted};
 ghost use Rattle.pad_desk.specs.Histories.{Legal, status_after};
 ghost use Rattle.pad_desk.specs.Machines.{HistoryOnDisk, IsFreshDisk, Stands};
+ghost use Rattle.pad_desk.specs.Pending.{IsPendingFor, state_before};
+ghost use Rattle.pad_desk.specs.declared.answers.Collected.TheVariants as collecting;
 ghost use Rattle.pad_machine.specs.Stands.{StandsFor, set_by};
 ghost use Rattle.pad_steps.specs.Formed.{is_well_formed};
 ghost use Rattle.pad_steps.specs.declared.steps.Question.TheVariants as asked;
@@ -119,6 +121,10 @@ impl<W: PinWork + Drop, D: PowerDisk + Drop> Desk<W, D> {
         ensures kept { view pass.new ≡ record (view pass.old) { seen = (view pass.new).seen; mine = (view pass.new).mine } }
         ensures answered { IfOk result (λ collected. AnswersWith W.rules (view pass.old)
             (steps.Ask session (asked.Reply id)) (collect_out session id collected) (view pass.new)) }
+
+        // Pending is answered exactly where the request was pending as the question came to its turn.
+        ensures pending { IfOk result (λ collected. (collected ≡ collecting.Pending)
+            ↔ IsPendingFor (state_before W.rules (view pass.new)).shared session id) }
         ensures seen { OnErr result (Sees (Legal W.rules) (status_after W.rules) (view pass.old) (view pass.new)) }
         ensures refused { IfErr result (Refuses (steps.Ask session (asked.Reply id)) (length (view pass.new).seen)) }
     {
