@@ -26,7 +26,7 @@ class Group:
 
 
 GROUPS = [
-    Group(0, 440, "programs", [["pinpad_cli", "worked_runs"]]),
+    Group(0, 440, "programs", [["pinpad_cli", "worked_runs", "fault_runs"]]),
     Group(1, 440, "whole runs of a script", [["pad_replay"]]),
     Group(1, 968, "one pad for threads", [["pad_desk"]]),
     Group(2, 330, "the pad: the code of a step", [["pad_machine"]]),
