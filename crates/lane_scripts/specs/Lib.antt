@@ -1,0 +1,2 @@
+pub mod LaneScripts
+pub mod NextLines
