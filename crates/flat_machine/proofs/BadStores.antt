@@ -4,20 +4,19 @@ use Rattle.flat_machine.proofs.CalmWords.{calm_step}
 use Rattle.flat_machine.proofs.ToldBytes.{both_told, told_three, told_to, with_told}
 use Rattle.flat_machine.specs.Deeds.{IsCalm}
 use Rattle.flat_machine.specs.DiskFacts.{TellsApart}
-use Rattle.flat_machine.specs.DiskSteps.{Moved, OnDisk, ReadBy, ShowsKeys}
+use Rattle.flat_machine.specs.DiskSteps.{Moved, OnDisk, ShowsKeys}
 use Rattle.flat_machine.specs.Power.{Loading, Nothing, Plan, Replacing}
 use Rattle.flat_machine.specs.State.{Shared}
 use Rattle.flat_machine.specs.StoreHistory.{Layout}
-use Rattle.key_attributes.specs.declared.KeyRow.{KeyRow}
 use Rattle.key_record.specs.Records.{record_of, spelled}
-use Rattle.key_table.specs.KeyRows.{KeyRows, row_in}
+use Rattle.key_table.specs.KeyRows.{KeyRows}
 use Rattle.key_table.specs.StoredRows.{HasCells, bad_slot, rows_of}
 use Rattle.nv_store.specs.Cells.{cell_of, place_of, selected}
 use Rattle.pad_steps.specs.declared.steps.DiskWord.TheVariants as word
 use Rattle.std.proofs.Common.{ap, arith, subst, sym, ◌∙◌}
 use Rattle.std.proofs.lemmas.Bool.{false_from_ne_true}
 use Rattle.std.proofs.lemmas.List.{drop-replicate, take-replicate}
-use Rattle.std.specs.Prelude.{Bool, IfSome, List, None, Option, Some, [], drop, false, is_none, is_some, refl, replicate, slice_range, take, true, ℕ, ◌+◌, ◌-◌, ◌<◌, ◌≡◌, ◌≤◌}
+use Rattle.std.specs.Prelude.{Bool, IfSome, List, None, Option, Some, [], false, is_none, is_some, refl, replicate, slice_range, take, true, ℕ, ◌+◌, ◌-◌, ◌<◌, ◌≡◌, ◌≤◌}
 
 module _ (layout : Layout) where
   same_bytes : (calls : Plan) (slot : ℕ) (from bytes : List ℕ) → Moved layout calls (word.Bad slot) from bytes → bytes ≡ from

@@ -1,10 +1,9 @@
 -- Once rows were loaded the machine knows it, in every state after.
-use Rattle.flat_machine.proofs.BoolLemmas.{or_none}
 use Rattle.flat_machine.proofs.DeviceStays.{is_still, leaves_next}
 use Rattle.flat_machine.proofs.DeedLists.{or_cases}
 use Rattle.flat_machine.proofs.PowerLemmas.{plan_of_any_count}
 use Rattle.flat_machine.specs.Commands.{work_of}
-use Rattle.flat_machine.specs.Deeds.{Arms, Deed, FitsDeeds, Takes, acts_in, after_deeds, loads_rows}
+use Rattle.flat_machine.specs.Deeds.{Arms, Deed, FitsDeeds, Takes, after_deeds, loads_rows}
 use Rattle.flat_machine.specs.DiskSteps.{is_loaded}
 use Rattle.flat_machine.specs.FinishSteps.{deletes, finish_with, imports, inits, performs, plan_finish, plan_of, resets}
 use Rattle.flat_machine.specs.Machine.{fits, next, plan}
@@ -23,7 +22,7 @@ use Rattle.pad_steps.specs.declared.steps.Step.TheVariants as step
 use Rattle.pad_steps.specs.declared.steps.Step.{Step}
 use Rattle.request_queue.specs.Requests.{request_in_work}
 use Rattle.request_queue.specs.declared.requests.Request.{Request}
-use Rattle.std.proofs.Common.{⊎_elim, ap, subst, sym, ◌∙◌}
+use Rattle.std.proofs.Common.{⊎_elim, ◌∙◌}
 use Rattle.std.specs.Prelude.{Bool, IsTrue, List, None, Option, Some, [], cond, false, if◌then◌else◌, length, refl, true, ℕ, ◌∷◌, ◌≡◌}
 
 -- rows were loaded
