@@ -47,13 +47,13 @@ found-not : (b : Bool) (asked found : Request Command) (rest : Option (Request C
 found-not true asked found rest is differs = cc
 found-not false asked found rest is differs = is
 
-work_left-begun : (holder : Option Session) (rows : Rows) (found : Request Command) → eligible holder rows ≡ Some found → work_left (begun holder rows) < work_left rows
+pub work_left-begun : (holder : Option Session) (rows : Rows) (found : Request Command) → eligible holder rows ≡ Some found → work_left (begun holder rows) < work_left rows
 work_left-begun holder [] found is = cc
 work_left-begun holder (Waiting asked ∷ rows) found is = less-if (may_begin holder asked) asked (InWork asked) rows (begun holder rows) (omega arith) (λ differs. work_left-begun holder rows found (found-not (may_begin holder asked) asked found (eligible holder rows) is differs))
 work_left-begun holder (InWork asked ∷ rows) found is = let fewer : work_left (begun holder rows) < work_left rows = work_left-begun holder rows found is in omega arith
 work_left-begun holder (Gone id session answer ∷ rows) found is = work_left-begun holder rows found is
 
-work_left-refused : (answer : Reply) (holder : Option Session) (rows : Rows) (found : Request Command) → eligible holder rows ≡ Some found → work_left (refused_at_begin answer holder rows) < work_left rows
+pub work_left-refused : (answer : Reply) (holder : Option Session) (rows : Rows) (found : Request Command) → eligible holder rows ≡ Some found → work_left (refused_at_begin answer holder rows) < work_left rows
 work_left-refused answer holder [] found is = cc
 work_left-refused answer holder (Waiting asked ∷ rows) found is = less-if (may_begin holder asked) asked (Gone asked.id asked.session answer) rows (refused_at_begin answer holder rows) (omega arith) (λ differs. work_left-refused answer holder rows found (found-not (may_begin holder asked) asked found (eligible holder rows) is differs))
 work_left-refused answer holder (InWork asked ∷ rows) found is = let fewer : work_left (refused_at_begin answer holder rows) < work_left rows = work_left-refused answer holder rows found is in omega arith
@@ -94,7 +94,7 @@ work-in found None (Some asked) is = inr (begin-is found is)
     begin-is found is = cc
 
 -- the request in work is gone, and so is every other that was pending where the device goes off
-fewer-finished : (answer : Reply) (rows : Rows) (asked : Request Command) → request_in_work rows ≡ Some asked → work_left (finished answer rows) < work_left rows
+pub fewer-finished : (answer : Reply) (rows : Rows) (asked : Request Command) → request_in_work rows ≡ Some asked → work_left (finished answer rows) < work_left rows
 fewer-finished answer [] asked is = cc
 fewer-finished answer (Waiting other ∷ rows) asked is = let fewer : work_left (finished answer rows) < work_left rows = fewer-finished answer rows asked is in omega arith
 fewer-finished answer (InWork other ∷ rows) asked is = omega arith

@@ -50,6 +50,7 @@ pub mod KeyRowRuns
 pub mod KeyRuns
 pub mod KeyTableRuns
 pub mod KeyTables
+pub mod LeftWork
 pub mod LegalLemmas
 pub mod LengthLemmas
 pub mod LengthRuns

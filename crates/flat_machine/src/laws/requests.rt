@@ -1,6 +1,6 @@
 //! What is so of the requests of every run.
 
-ghost use Rattle.std.specs.Prelude.{◌≡◌, ◌<◌, ◌≤◌, ◌+◌, false, List, ℕ, Some, length, map};
+ghost use Rattle.std.specs.Prelude.{◌≡◌, ◌<◌, ◌≤◌, ◌*◌, ◌+◌, false, List, ℕ, Some, length, map};
 ghost use Rattle.std.specs.List.{range_with_len};
 ghost use Rattle.pad_words.specs.declared.numbers.Session.{Session};
 ghost use Rattle.pad_steps.specs.declared.steps.DiskWord.{DiskWord};
@@ -12,7 +12,7 @@ ghost use Rattle.flat_machine.specs.State.{Flat, is_off};
 ghost use Rattle.flat_machine.specs.Machine.{Act, next, next_work, run_from};
 ghost use Rattle.flat_machine.specs.Facts.{IsStart};
 ghost use Rattle.flat_machine.specs.RequestFacts.{draws, row_id, in_work, of_id, work_left, endings_told, endings_kept, KeepsEnded, IsBelowFloor, no_such_request};
-ghost use Rattle.flat_machine.specs.EveryRun.{InEveryRun};
+ghost use Rattle.flat_machine.specs.EveryRun.{AtEveryStep, InEveryRun, after_step};
 ghost use Rattle.pad_steps.specs.declared.answers.Out.TheVariants as out;
 ghost use Rattle.pad_steps.specs.declared.answers.Told.TheVariants as told;
 ghost use Rattle.pad_steps.specs.declared.steps.Question.TheVariants as questions;
@@ -63,4 +63,15 @@ pub fn due_steps_come_to_an_end()
         work_left (kept_next set kept step word).state.shared.requests < work_left kept.shared.requests }
     ensures ids { (set : Setting) (kept : Kept) (step : Step) (word : DiskWord) →
         length (kept_next set kept step word).state.shared.requests ≤ length kept.shared.requests + draws step }
+{}
+
+/// The work that is left in a run: a step that is due leaves less, no step leaves more than two steps of work for each id that
+/// it may draw, and no other ids are drawn.
+pub fn due_work_runs_out()
+    ensures less { InEveryRun (λ set state. (step : Step) (word : DiskWord) → next_work state.shared ≡ Some step →
+        work_left (after_step set state step word).shared.requests < work_left state.shared.requests) }
+    ensures more { AtEveryStep (λ set state step word.
+        work_left (after_step set state step word).shared.requests ≤ work_left state.shared.requests + 2 * draws step) }
+    ensures ids { AtEveryStep (λ set state step word.
+        length (after_step set state step word).shared.requests ≤ length state.shared.requests + draws step) }
 {}
