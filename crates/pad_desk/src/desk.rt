@@ -14,7 +14,7 @@ ghost use Rattle.pad_steps.specs.declared.steps.Question.TheVariants as asked;
 ghost use Rattle.pad_steps.specs.declared.steps.Step.TheVariants as steps;
 ghost use Rattle.turnstile.specs.Entries.{Refuses};
 ghost use Rattle.turnstile.specs.Rules.{NotesWithin, Settled, first_view, joined, new_seat, with_new_seat};
-ghost use Rattle.turnstile.specs.Turns.{Closes, Enters, IsPassOf, Sees, view};
+ghost use Rattle.turnstile.specs.Turns.{Closes, Enters, IsPassOf, Sees, view, made_with};
 
 use crate::answers::{Collected, Submitted, Worked, collected_in, step_due, submitted_in};
 use crate::machine::PadAndDisk;
@@ -54,7 +54,8 @@ impl<W: PinWork + Drop, D: PowerDisk + Drop> Desk<W, D> {
     ) -> Result<(Desk<W, D>, DeskPass<W, D>), NoMemory>
         requires pad { StandsFor pad pad.kept.seed opening }
         requires disk { IsFreshDisk (D.state disk) }
-        ensures { IfOk result (λ made. IsPassOf made.0.turn made.1 × (view made.1 ≡ first_view pad.kept.seed)) }
+        ensures pass { IfOk result (λ made. IsPassOf made.0.turn made.1 × (view made.1 ≡ first_view pad.kept.seed)) }
+        ensures pad { IfOk result (λ made. (made_with made.0.turn).pad ≡ pad) }
     {
         disk_runs_join::<D>();
         let (turn, pass) = Turn::new(alloc, PadAndDisk::new(alloc, pad, disk))?;

@@ -1,5 +1,5 @@
 -- What a clause says of a turn and of its passes.
-use Rattle.std.specs.Prelude.{◌≡◌, ℕ, ◌+◌, ◌<◌, List, [], ◌∷◌, ◌++◌, length, Option}
+use Rattle.std.specs.Prelude.{◌≡◌, ℕ, ◌+◌, ◌<◌, ◌≤◌, List, [], ◌∷◌, ◌++◌, length, Option}
 use Rattle.atomic_table.specs.declared.shared.Seat.{Seat}
 use Rattle.turnstile.specs.declared.turn.Turn.{Turn}
 use Rattle.turnstile.specs.declared.machine.Entry.{Entry}
@@ -12,6 +12,10 @@ use Rattle.turnstile.specs.Numbers.{TellsPasses, AreWhole, IsPlaceOf}
 use Rattle.turnstile.specs.Entries.{entry}
 
 module _ {X O R : Type 0} where
+  -- the machine that the turn was made with, as it was then
+  abbrev pub made_with : Turn X O R → X
+  made_with turn = turn.table.shared.key.value
+
   -- what contracts see of a pass
   abbrev pub view : Seat (Option (Held X O R)) (PassView O R) → PassView O R
   view pass = pass.me.0
@@ -50,6 +54,8 @@ module _ {O R : Type 0} where
   pub record Closes (status : List (Entry O R) → ℕ) (pass : PassView O R) (history : List (Entry O R)) : Type 0 where
     pub log : List (MadeEntry O R)
     pub bare : history ≡ entries_of log
+    -- of at most 1,048,576 entries
+    pub short : length log ≤ 1048576
     pub seen : StartsWith log pass.seen
     pub notes : NotesTrue status log pass.notes
     pub known : TellsPasses log (passes_known pass)

@@ -6,7 +6,7 @@ ghost use Rattle.turnstile.specs.declared.machine.Entry.{Entry};
 ghost use Rattle.turnstile.specs.Rules.{StandsFrom, GotTurn, Begun, Carries, entries_of, NotesWithin, first_view, grown, passes_known, with_new_seat, new_seat, joined, Settled};
 ghost use Rattle.turnstile.specs.Entries.{Refuses, entry};
 ghost use Rattle.turnstile.specs.Numbers.{TellsPasses};
-ghost use Rattle.turnstile.specs.Turns.{view, IsPassOf, Enters, Sees, Closes};
+ghost use Rattle.turnstile.specs.Turns.{view, made_with, IsPassOf, Enters, Sees, Closes};
 
 use crate::held::{Entered, Held};
 use crate::history::History;
@@ -215,7 +215,8 @@ impl<M: Machine> Turn<M> {
     /// is wanting.
     pub fn new(alloc: Global, machine: M) -> Result<(Turn<M>, Pass<M>), NoMemory>
         requires { M.stands machine [] }
-        ensures { IfOk result (λ made. IsPassOf made.0 made.1 × (view made.1 ≡ first_view (M.origin machine))) }
+        ensures pass { IfOk result (λ made. IsPassOf made.0 made.1 × (view made.1 ≡ first_view (M.origin machine))) }
+        ensures machine { IfOk result (λ made. made_with made.0 ≡ machine) }
     {
         let made = Snapshot::of(&machine);
         let held = Held {

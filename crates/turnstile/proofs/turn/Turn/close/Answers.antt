@@ -13,4 +13,4 @@ returns-clause-origin g c = let b = c.begin.ensures.begun in let same = same_slo
 
 pub returns-clause-whole : goal.returns-clause-whole
 returns-clause-whole g c = let b = c.begin.ensures.begun in let log = c.begin.new.pass.me.0.seen in let same = same_slot b.held c.take_machine-machine.result (sym (ap (λ m. m.1) b.begun) ∙ c.take_machine-machine.ensures.taken.0) in
-    record { log = log; bare = c.of.ensures ∙ ap (λ h. h.history.items) (sym same) ∙ b.fits.0; seen = b.later; notes = b.notes; known = b.known; makers = λ whole. one_maker (passes_known c.args.pass.me.0) whole log b.known }
+    record { log = log; bare = c.of.ensures ∙ ap (λ h. h.history.items) (sym same) ∙ b.fits.0; short = b.short; seen = b.later; notes = b.notes; known = b.known; makers = λ whole. one_maker (passes_known c.args.pass.me.0) whole log b.known }
