@@ -1,2 +1,16 @@
+pub mod StatusLemmas
+pub mod PlacedLemmas
+pub mod EventLemmas
+pub mod MoveLemmas
+pub mod WorkLemmas
+pub mod StartLemmas
 pub mod TextLemmas
 pub mod HistoryLemmas
+pub mod ShuffleLemmas
+pub mod LaneListLemmas
+pub mod LiveLemmas
+pub mod RunLemmas
+pub mod DueLemmas
+pub mod CountLemmas
+pub mod BoundLemmas
+pub mod SendLemmas

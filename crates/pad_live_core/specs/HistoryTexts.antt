@@ -8,6 +8,7 @@ use Rattle.pad_desk.specs.Histories.{DeskEntry}
 use Rattle.pad_machine.specs.Stands.{set_by}
 use Rattle.pad_steps.specs.Formed.{is_well_formed}
 use Rattle.pad_steps.specs.Lines.{Line}
+use Rattle.pin_blocks.specs.PinRules.{PinRules}
 use Rattle.std.specs.Prelude.{IsTrue, List, flat_map, ℕ}
 use Rattle.transcript.specs.PrintedLines.{line_of_step, line_text, lines_text}
 use Rattle.turnstile.specs.Numbers.{Each}
@@ -29,9 +30,13 @@ history_text history = flat_map entry_text history
 abbrev pub AreFormed : List DeskEntry → Type 0
 AreFormed = Each (λ (entry : DeskEntry). IsTrue (is_well_formed entry.op))
 
--- what the pad of a live run has from outside: its cipher and its PIN work are the standard ones
+-- the PIN work of a live run is the standard one
+abbrev pub live_rules : PinRules
+live_rules = standard_rules tdea_bytes
+
+-- what the pad of a live run has from outside
 abbrev pub live_setting : List ℕ → Setting
-live_setting seed = set_by (standard_rules tdea_bytes) seed
+live_setting seed = set_by live_rules seed
 
 -- the text of a run of the flat machine, with this seed
 abbrev pub run_text : List ℕ → List Act → List ℕ

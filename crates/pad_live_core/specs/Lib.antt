@@ -1,5 +1,3 @@
-pub mod CommandLine
-pub mod HistoryTexts
 pub mod Statuses
 pub mod Shuffles
 pub mod LaneEvents
@@ -7,3 +5,8 @@ pub mod LaneLines
 pub mod Workers
 pub mod LiveHistories
 pub mod Bounds
+pub mod Stops
+pub mod LaneJobs
+pub mod PendingLanes
+pub mod CommandLine
+pub mod HistoryTexts

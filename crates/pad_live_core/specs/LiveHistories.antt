@@ -6,6 +6,7 @@ use Rattle.pad_live_core.specs.LaneLines.{Breaks, Follows, LaneList, ids_of}
 use Rattle.pad_live_core.specs.Bounds.{awaits}
 use Rattle.pad_live_core.specs.Shuffles.{Shuffle}
 use Rattle.pad_live_core.specs.Workers.{IsWorked}
+use Rattle.pad_live_core.specs.declared.stop.Stop.TheVariants as why
 use Rattle.pad_live_core.specs.declared.stop.Stop.{Stop}
 use Rattle.pin_blocks.specs.PinRules.{PinRules}
 use Rattle.script_lang.specs.declared.lane_kinds.LaneStep.{LaneStep}
@@ -118,6 +119,9 @@ module _ (pin_rules : PinRules) where
     -- where nothing stopped, each lane did all its lines and no work is due
     pub done : stop ≡ None → Each (λ (lane : Lane). lane.stop ≡ None) lanes
     pub idle : stop ≡ None → due_at (status_after pin_rules history) ≡ None
+    -- where a full history stopped the run, it has 1,048,576 entries; and where one stopped a lane, it stopped the run
+    pub full : stop ≡ Some why.Full → length history ≡ 1048576
+    pub met : Each (λ (lane : Lane). lane.stop ≡ Some why.Full → stop ≡ Some why.Full) lanes
 
   -- a lane's pass at its end, of this number: it knows its events
   pub record LaneKnows (k : ℕ) (lane : Lane) : Type 0 where

@@ -54,5 +54,12 @@ fn print_entry<K: Sink>(
         Rose (counted_faults K.faults sink.old) (counted_faults K.faults sink.new) }
 {
     let said = &entry.outcome;
-    printer.print_step(&entry.op, said.masked, &said.word, said.fate, said.outs.outs(), sink)
+    printer.print_step(
+        &entry.op,
+        said.masked,
+        &said.word,
+        said.fate,
+        said.outs.outs(),
+        sink,
+    )
 }
