@@ -27,9 +27,9 @@ class Group:
 
 GROUPS = [
     Group(0, 440, "programs", [["pinpad_cli", "worked_runs", "fault_runs"]]),
-    Group(0, 930, "lanes and a worker", [["pad_live_core"]]),
+    Group(0, 890, "lanes and a worker", [["pad_live_core"]]),
     Group(1, 440, "whole runs of a script", [["pad_replay"]]),
-    Group(1, 930, "one pad for threads", [["pad_desk"]]),
+    Group(1, 968, "one pad for threads", [["pad_desk"]]),
     Group(2, 330, "the pad: the code of a step", [["pad_machine"]]),
     Group(2, 720, "text", [["lane_scripts", "transcript"], ["script_lang", "command_words"]]),
     Group(3, 330, "the machine: its definition and laws", [["flat_machine"]], width=600),
@@ -39,7 +39,7 @@ GROUPS = [
     Group(4, 766, "keys on a disk", [["key_table", "key_record"], ["nv_store", "disk_core"]]),
     Group(5, 131, "ciphers", [["check_values", "cbc_mac"], ["des_core"]]),
     Group(6, 390, "commands, steps and answers", [["pad_steps", "key_source", "key_attributes"]], width=600),
-    Group(6, 930, "the turn of threads", [["turnstile"]]),
+    Group(6, 968, "the turn of threads", [["turnstile"]]),
     Group(7, 440, "small values, and spelled words", [["pad_words", "spelled_words"]], width=600),
 ]
 
