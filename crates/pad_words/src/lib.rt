@@ -8,9 +8,11 @@ pub mod numbers;
 pub use bytes::{Block, Nibbles, Octets, exclusive_or};
 pub use names::KeyName;
 pub use numbers::{Digit, Session};
+use thiserror::Error;
 
 /// Memory was wanting. What was asked for was not done.
-#[derive(Clone, Copy, Debug, PartialEq, Eq)]
+#[derive(Clone, Copy, Debug, PartialEq, Eq, Error)]
+#[error("memory was wanting")]
 pub struct NoMemory;
 
 /// Whether a cipher encrypts or decrypts.
