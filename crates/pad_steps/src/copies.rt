@@ -1,4 +1,4 @@
-//! Copies of commands, of refusals and of events. Each takes its memory first, and is what was copied again.
+//! Copies of commands, of steps, of refusals and of events. Each takes its memory first, and is what was copied again.
 ghost use Rattle.std.specs.Prelude.{◌≡◌, false, IfOk, IsOk};
 ghost use Rattle.pad_steps.specs.Formed.{is_extra};
 
@@ -7,6 +7,7 @@ use crate::commands::{
     BlockRequest, CheckRequest, Command, CryptRequest, ExtraRequest, ImportRequest, ImportSource,
     PinRequest, Start,
 };
+use crate::steps::{Question, Step};
 use pad_words::{KeyName, NoMemory, Octets};
 use std::alloc::Global;
 
@@ -90,7 +91,8 @@ impl Start {
 }
 
 impl CryptRequest {
-    fn copy(&self, alloc: Global) -> Result<CryptRequest, NoMemory>
+    /// The request again. It fails for want of memory alone.
+    pub fn copy(&self, alloc: Global) -> Result<CryptRequest, NoMemory>
         ensures { IfOk result (λ request. request ≡ self.now) }
     {
         Ok(CryptRequest {
@@ -152,6 +154,46 @@ impl Command {
             Command::Init => Ok(Command::Init),
             Command::Reset => Ok(Command::Reset),
             Command::RsaImport => Ok(Command::RsaImport),
+        }
+    }
+}
+
+impl Question {
+    // The question again, without memory.
+    fn copy(&self) -> Question
+        ensures { result ≡ self.now }
+    {
+        match self {
+            Question::Status => Question::Status,
+            Question::Key(name) => Question::Key(name.copy()),
+            Question::Names => Question::Names,
+            Question::Reply(id) => Question::Reply(*id),
+        }
+    }
+}
+
+impl Step {
+    /// The step again. It fails for want of memory alone.
+    pub fn copy(&self, alloc: Global) -> Result<Step, NoMemory>
+        ensures { IfOk result (λ step. step ≡ self.now) }
+    {
+        match self {
+            Step::Open(session) => Ok(Step::Open(*session)),
+            Step::Close(session) => Ok(Step::Close(*session)),
+            Step::Listen(session, classes) => Ok(Step::Listen(*session, *classes)),
+            Step::Lock(session) => Ok(Step::Lock(*session)),
+            Step::Unlock(session) => Ok(Step::Unlock(*session)),
+            Step::Submit(session, limit, command) => {
+                Ok(Step::Submit(*session, *limit, command.copy(alloc)?))
+            }
+            Step::Cancel(session, id) => Ok(Step::Cancel(*session, *id)),
+            Step::Begin => Ok(Step::Begin),
+            Step::Finish => Ok(Step::Finish),
+            Step::Press(key) => Ok(Step::Press(*key)),
+            Step::Tick(ticks) => Ok(Step::Tick(*ticks)),
+            Step::Ask(session, question) => Ok(Step::Ask(*session, question.copy())),
+            Step::Off => Ok(Step::Off),
+            Step::Boot => Ok(Step::Boot),
         }
     }
 }
