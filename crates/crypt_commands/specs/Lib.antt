@@ -1,2 +1,3 @@
 pub mod Crypts
 pub mod Faults
+pub mod Jobs

@@ -18,6 +18,10 @@ use pad_steps::{Algorithm, CryptRequest, Start};
 use pad_words::{Block, Direction, NoMemory, Octets};
 use std::alloc::Global;
 
+mod jobs;
+
+pub use jobs::{CryptDone, CryptJob};
+
 #[cfg(test)]
 mod tests;
 

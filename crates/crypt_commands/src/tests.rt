@@ -3,7 +3,7 @@
 //! "Now is the time for all " and its answers are the example of FIPS 81. The others come from OpenSSL and its legacy
 //! provider: `echo $bytes | xxd -r -p | openssl enc -nopad -provider legacy -provider default -des-ecb -K $key | xxd -p`,
 //! with `-des-ede-cbc -iv $start` and `-des-ede3-ecb` for keys of two and three parts.
-use crate::{CryptFault, CryptOut, run_crypt};
+use crate::{CryptFault, CryptJob, CryptOut, run_crypt};
 use key_attributes::KeyValue;
 use pad_steps::{Algorithm, CryptRequest, Start};
 use pad_words::{Block, Direction, KeyName, Octets};
@@ -76,6 +76,11 @@ fn run(alloc: Global, row: &Row) -> Result<Result<CryptOut, CryptFault>, Fail> {
     Ok(run_crypt(alloc, &request, &key, start_key.as_ref()))
 }
 
+const ECB_TEXT: &[u8] = &[
+    0x3F, 0xA4, 0x0E, 0x8A, 0x98, 0x4D, 0x48, 0x15, 0x6A, 0x27, 0x17, 0x87, 0xAB, 0x88, 0x83, 0xF9,
+    0x89, 0x3D, 0x51, 0xEC, 0x4B, 0x56, 0x3B, 0x53,
+];
+
 // A row of ECB and of CBC of the text, under the key of one part.
 const ECB: Row = Row {
     algorithm: Algorithm::Ecb,
@@ -84,10 +89,7 @@ const ECB: Row = Row {
     start: Begins::Zero,
     pad: 0,
     body: TEXT,
-    answer: Answer::Bytes(&[
-        0x3F, 0xA4, 0x0E, 0x8A, 0x98, 0x4D, 0x48, 0x15, 0x6A, 0x27, 0x17, 0x87, 0xAB, 0x88, 0x83,
-        0xF9, 0x89, 0x3D, 0x51, 0xEC, 0x4B, 0x56, 0x3B, 0x53,
-    ]),
+    answer: Answer::Bytes(ECB_TEXT),
 };
 
 const SEALED_TEXT: &[u8] = &[
@@ -206,5 +208,26 @@ fn answers(rt: HostRuntime) -> Result<(), Fail> {
         };
         assert!(rt; same, "row {place}");
     }
+    Ok(())
+}
+
+#[test]
+fn a_job_runs(rt: HostRuntime) -> Result<(), Fail> {
+    let request = CryptRequest {
+        algorithm: Algorithm::Ecb,
+        direction: Direction::Encrypt,
+        key: KeyName::read(b"K").ok_or("a name")?,
+        start: Start::Zero,
+        pad: 0,
+        body: Octets::copy(rt.alloc(), TEXT)?,
+    };
+    let asked = request.copy(rt.alloc())?;
+    let key = KeyValue::new(KEY).ok_or("a key")?;
+    let job = CryptJob::new(rt.alloc(), 7, request, key.copy(), None);
+    let Ok(done) = job.run() else {
+        panic!(rt; "a job that was run")
+    };
+    assert!(rt; done.is_of(7, &asked, &key, None));
+    assert!(rt; matches!(done.outcome(), Ok(CryptOut::Bytes(bytes)) if bytes.items() == ECB_TEXT));
     Ok(())
 }
