@@ -4,6 +4,7 @@ use Rattle.std.proofs.lemmas.List.{take_at, drop_at, length-append, length-drop,
 use Rattle.std.proofs.Common.{Bool, ◌&&◌}
 use Rattle.std.specs.Prelude.{IsTrue, nat_le, nat_lt, slice_index}
 use Rattle.std.proofs.lemmas.Bool.Decides.{nat_tests}
+use Rattle.byteorder.specs.Endian.{big_number}
 use Rattle.key_attributes.specs.declared.KeyRow.{KeyRow}
 use Rattle.pad_words.specs.KeyLengths.{is_key_length}
 use Rattle.key_record.specs.Records.{IsRow, padded, row_in, spelled}
@@ -66,8 +67,8 @@ row_in-spelled row is = λ i. record { name = name_in row fits i; value = value 
     value : take (slice_index (spelled (Some row)) 36) (drop 37 (spelled (Some row))) ≡ row.value
     value = ap (λ (n : ℕ). take n (drop 37 (spelled (Some row)))) (at_tail row fits 2) ∙ value_in row fits
 
-    uses : slice_index (spelled (Some row)) 34 * 256 + slice_index (spelled (Some row)) 35 ≡ row.uses
-    uses = omega (arith, at_tail row fits 0, at_tail row fits 1, low)
+    uses : big_number 2 (drop 34 (spelled (Some row))) ≡ row.uses
+    uses = ap (big_number 2) (drop-whole row fits) ∙ omega (arith, low)
 
 -- rows with one record are the same
 pub spelled-injective : (row other : Option KeyRow) → IsRow row → IsRow other → spelled row ≡ spelled other → row ≡ other

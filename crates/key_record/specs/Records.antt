@@ -1,9 +1,9 @@
 -- The record of a row.
+use Rattle.byteorder.specs.Endian.{big_bytes, big_number}
 use Rattle.key_attributes.specs.UseBits.{uses_valid}
 use Rattle.key_attributes.specs.declared.KeyRow.{KeyRow}
 use Rattle.pad_words.specs.KeyLengths.{is_key_length}
 use Rattle.pad_words.specs.Names.{is_key_name}
-use Rattle.std.specs.Int.{from_be_bytes, to_be_bytes, w16}
 use Rattle.std.specs.Prelude.{Bool, IsTrue, List, None, Option, Some, [], bytes_eq, drop, if◌then◌else◌, length, replicate, slice_index, take, ℕ, ◌&&◌, ◌++◌, ◌-◌, ◌∷◌}
 
 -- bytes, and zero bytes behind them up to a size
@@ -13,7 +13,7 @@ padded size bytes = bytes ++ replicate (size - length bytes) 0
 -- the 96 bytes of a row: 1, the length of the name, the name, the uses with the higher byte first, the length of the value, the value, and zero bytes; without a row, zero bytes alone
 abbrev pub spelled : Option KeyRow → List ℕ
 spelled None = replicate 96 0
-spelled (Some row) = (1 ∷ length row.name ∷ []) ++ padded 32 row.name ++ to_be_bytes w16 row.uses
+spelled (Some row) = (1 ∷ length row.name ∷ []) ++ padded 32 row.name ++ big_bytes 2 row.uses
     ++ (length row.value ∷ []) ++ padded 24 row.value ++ replicate 35 0
 
 -- there is no row, or its name, value and uses are valid
@@ -26,7 +26,7 @@ abbrev pub row_in : List ℕ → KeyRow
 row_in cell = record {
   name = take (slice_index cell 1) (drop 2 cell);
   value = take (slice_index cell 36) (drop 37 cell);
-  uses = from_be_bytes w16 (slice_index cell 34 ∷ slice_index cell 35 ∷ []);
+  uses = big_number 2 (drop 34 cell);
 }
 
 -- name, value and uses are valid

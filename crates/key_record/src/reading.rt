@@ -1,9 +1,11 @@
 //! A record read as a row.
 ghost use Rattle.std.specs.Prelude.{◌≡◌, ◌≢◌, ◌+◌, ◌<◌, ◌≤◌, ◌↔◌, IfNone, IfOk, IfSome, IsTrue, MatchOption, None, Ok, OnErr, Option, Some, drop, length, take};
+ghost use Rattle.byteorder.specs.Endian.{big_number};
 ghost use Rattle.key_attributes.specs.declared.KeyRow.{KeyRow};
 ghost use Rattle.key_record.specs.Records.{IsRow, record_of, row_in, spelled};
 
 use crate::{RECORD_BYTES, write_record};
+use byteorder::{BigEndian, ByteOrder};
 use key_attributes::{KeyRow, KeyValue, Uses};
 use pad_words::KeyName;
 
@@ -49,9 +51,16 @@ fn read_row(cell: &[u8; RECORD_BYTES]) -> Option<KeyRow>
     ensures none { IfNone result (IsRow (Some (row_in cell.now)) → ⊥) }
 {
     let name = KeyName::read(field(cell, 2, cell[1])?)?;
-    let uses = Uses::from_bits(u16::from_be_bytes([cell[34], cell[35]]))?;
+    let uses = Uses::from_bits(bits_of_uses(cell))?;
     let value = KeyValue::new(field(cell, 37, cell[36])?)?;
     Some(KeyRow { name, value, uses })
+}
+
+// The bits of the uses, the higher byte first.
+fn bits_of_uses(cell: &[u8; RECORD_BYTES]) -> u16
+    ensures { result ≡ big_number 2 (drop 34 cell.now) }
+{
+    BigEndian::read_u16(&cell[34..])
 }
 
 // The bytes from a place on. None where there are fewer.

@@ -1,11 +1,12 @@
 //! A row written as a record.
 ghost use Rattle.std.specs.Prelude.{◌≡◌, ◌+◌, ◌++◌, ◌≤◌, IsTrue, Some, length, take};
-ghost use Rattle.std.specs.Int.{to_be_bytes, w16};
 ghost use Rattle.std.specs.Option.{option_copied};
+ghost use Rattle.byteorder.specs.Endian.{big_bytes};
 ghost use Rattle.key_attributes.specs.UseBits.{uses_valid};
 ghost use Rattle.key_record.specs.Records.{IsRow, padded, spelled};
 
 use crate::RECORD_BYTES;
+use byteorder::{BigEndian, ByteOrder};
 use key_attributes::{KeyRow, Uses};
 
 /// Writes the record of a row, or the empty record where there is none.
@@ -35,10 +36,12 @@ fn write_row(row: &KeyRow, cell: &mut [u8; RECORD_BYTES])
 
 // The higher byte first.
 fn bytes_of_uses(uses: &Uses) -> [u8; 2]
-    ensures bytes { result ≡ to_be_bytes w16 uses.now }
+    ensures bytes { result ≡ big_bytes 2 uses.now }
     ensures valid { IsTrue (uses_valid uses.now) }
 {
-    uses.bits().to_be_bytes()
+    let mut bytes = [0; 2];
+    BigEndian::write_u16(&mut bytes, uses.bits());
+    bytes
 }
 
 // Writes the field at its place, and zero bytes behind it up to its size.
