@@ -4,5 +4,4 @@ pub mod ToldLemmas
 pub mod CallLemmas
 pub mod CrashImages
 pub mod MemorySteps
-pub mod FileSteps
 pub mod FlakySteps

@@ -6,6 +6,5 @@ pub mod DiskStates
 pub mod Disks
 pub mod DiskMemories
 pub mod MemoryDisks
-pub mod FileDisks
 pub mod FlakyDisks
 pub mod HostStreams

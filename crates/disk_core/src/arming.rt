@@ -5,8 +5,8 @@ ghost use Rattle.disk_core.specs.Disks.{armed_after, struck_within, strike_fault
 
 use crate::disk::Strike;
 
-/// Counts a call, and says how it is struck.
-pub(crate) fn count_call(armed: &mut Option<(u32, Strike)>) -> Option<Strike>
+/// Counts a call of a disk on which this is armed, and says how the call is struck.
+pub fn count_call(armed: &mut Option<(u32, Strike)>) -> Option<Strike>
     requires { ForSome armed.old (λ a. 1 ≤ a.0) }
     ensures armed { armed.new ≡ armed_after 1 armed.old }
     ensures later { ForSome armed.new (λ a. 1 ≤ a.0) }

@@ -30,13 +30,18 @@ impl Calls {
         }
     }
 
+    /// The numbers, in the order in which they were given.
+    pub fn items(&self) -> &[u32]
+        ensures items { result.now ≡ self.now }
+        ensures few { length result.now ≤ 32 }
+    {
+        self.numbers.as_slice()
+    }
+
     /// Whether the call of this number is to fail.
     pub fn has(&self, number: u64) -> bool
         ensures { IsTrue result ↔ Contains self.now number }
     {
-        self.numbers
-            .as_slice()
-            .iter()
-            .any(|&known| u64::from(known) == number)
+        self.items().iter().any(|&known| u64::from(known) == number)
     }
 }

@@ -5,11 +5,10 @@
 //! its faults and its power cuts in the same way, and [`disk`] says what a crash may leave of it.
 #![tactic(auto)]
 
-mod arming;
+pub mod arming;
 pub mod counted_sink;
 pub mod disk;
 pub mod failing_calls;
-pub mod file_disk;
 pub mod flaky_disk;
 mod host_faults;
 pub mod laws;
@@ -20,10 +19,10 @@ pub mod standard_input;
 pub mod standard_output;
 pub mod traits;
 
+pub use arming::count_call;
 pub use counted_sink::{Counted, give_all};
 pub use disk::{ArmDisk, DISK_BYTES, Disk, DiskError, Keep, PowerDisk, Strike};
 pub use failing_calls::Calls;
-pub use file_disk::{FileDisk, OpenFault};
 pub use flaky_disk::FlakyDisk;
 pub use memory_disk::MemDisk;
 pub use memory_sink::MemSink;

@@ -3,7 +3,8 @@
 
 ghost use Rattle.std.specs.Prelude.{◌≡◌};
 
-use disk_core::{ArmDisk, Counted, FileDisk, MemDisk, OpenFault, StdSink, StdSource};
+use disk_core::{ArmDisk, Counted, MemDisk, StdSink, StdSource};
+use file_disk::{FileDisk, OpenFault};
 use pad_replay::{Ended, run_pinpad, store_path};
 use std::process::ExitCode;
 use std::{env, io};

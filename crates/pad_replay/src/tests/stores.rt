@@ -1,6 +1,7 @@
 //! Stores that are bad, and stores in files.
 use crate::top::run_pinpad;
-use disk_core::{ArmDisk, Calls, Counted, DISK_BYTES, FileDisk, MemDisk, MemSink, MemSource};
+use disk_core::{ArmDisk, Calls, Counted, DISK_BYTES, MemDisk, MemSink, MemSource};
+use file_disk::FileDisk;
 use pad_words::Octets;
 use std::alloc::Global;
 use std::fs::{OpenOptions, remove_file};

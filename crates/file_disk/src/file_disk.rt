@@ -3,10 +3,10 @@
 ghost use Rattle.std.specs.Prelude.{◌≡◌, ◌+◌, ◌≤◌, ◌↔◌, length, IfOk, IsErr, OnOk, OnErr, Err, None, Some, true, false};
 ghost use Rattle.disk_core.specs.Causes.{next_count};
 ghost use Rattle.disk_core.specs.Disks.{fault_in, strike_of, DeviceCalls, Reads, Writes, Syncs, StopsDisk, StartsDisk, ArmsDisk};
-ghost use Rattle.disk_core.specs.FileDisks.{untold_state, untold_laws, with_call_counted, CountsCall};
+ghost use Rattle.file_disk.specs.FileDisks.{untold_state, untold_laws, with_call_counted, CountsCall};
 
-use crate::arming::count_call;
-use crate::disk::{ArmDisk, DISK_BYTES, Disk, DiskError, PowerDisk, Strike};
+use disk_core::laws::torn_lists;
+use disk_core::{ArmDisk, DISK_BYTES, Disk, DiskError, PowerDisk, Strike, count_call};
 use std::fs::{File, OpenOptions};
 use std::io;
 use std::io::ErrorKind;
@@ -40,7 +40,7 @@ pub struct FileDisk {
 impl Model for FileDisk {
     ghost use Rattle.std.specs.Prelude.{◌≤◌};
     ghost use Rattle.std.specs.Option.{ForSome};
-    ghost use Rattle.disk_core.specs.FileDisks.{FileState};
+    ghost use Rattle.file_disk.specs.FileDisks.{FileState};
 
     ghost Value = { FileState };
 
@@ -135,6 +135,7 @@ impl Disk for FileDisk {
         ensures step { Writes at bytes.now (untold_state self.old) (untold_state self.new) (fault_in result) }
         ensures counts { CountsCall self.old self.new (fault_in result) }
     {
+        torn_lists();
         self.begin()?;
         let done = self.file.write_all_at(bytes, u64::from(at));
         self.end(done)
