@@ -4,10 +4,11 @@ use Rattle.std.proofs.lemmas.List.{append_assoc}
 use Rattle.std.specs.Prelude.{Err, IfSome, IsErrAnd, List, None, Ok, Option, Result, Some, [], ℕ, ◌++◌, ◌+◌, ◌∷◌, ◌≡◌}
 use Rattle.lane_scripts.proofs.LaneLemmas.{lanes_of-line}
 use Rattle.lane_scripts.proofs.LineLemmas.{same-fault}
-use Rattle.lane_scripts.specs.LaneScripts.{LaneScript, lane_script_of, lanes_of, lines_before, lines_behind, with_last_line}
+use Rattle.lane_scripts.specs.LaneScripts.{LaneScript, lane_lines_behind, lane_script_of, lanes_of, with_last_line}
 use Rattle.lane_scripts.specs.NextLines.{IsBadNext, IsFirstLine, IsNext, IsRead}
 use Rattle.lane_scripts.specs.declared.reading.ScriptFault.{ScriptFault}
 use Rattle.script_lang.specs.LaneSpelling.{HasLane}
+use Rattle.script_lang.specs.Scripts.{lines_before}
 use Rattle.script_lang.specs.declared.lane_kinds.LaneLine.{LaneLine}
 use Rattle.script_lang.specs.declared.lane_kinds.LaneStep.{LaneStep}
 
@@ -46,7 +47,7 @@ read-line script count before after lanes new line read first lane is = record {
   lines = read.lines ++ line ∷ [];
   rest = first.rest;
   told = first.left;
-  are = read.are ∙ ap (λ (rest : LaneScript). lines_before read.lines rest) first.are ∙ ap (λ (lines : List LaneLine). record { lines = lines; bad = (lines_behind (count + 1) first.rest).bad }) (sym (append_assoc read.lines (line ∷ []) (lines_behind (count + 1) first.rest).lines));
+  are = read.are ∙ ap (λ (rest : LaneScript). lines_before read.lines rest) first.are ∙ ap (λ (lines : List LaneLine). record { lines = lines; bad = (lane_lines_behind (count + 1) first.rest).bad }) (sym (append_assoc read.lines (line ∷ []) (lane_lines_behind (count + 1) first.rest).lines));
   steps = is ∙ ap (λ (ls : List (List LaneStep)). with_last_line ls line) read.steps ∙ sym (lanes_of-line read.lines line lane);
 }
 

@@ -1,7 +1,7 @@
 -- The lines of a lane script, and its sixteen lanes.
 use Rattle.std.specs.Prelude.{Bool, List, None, Option, Some, [], get_or, if◌then◌else◌, set, suc, zero, ℕ, ◌++◌, ◌+◌, ◌-◌, ◌==◌, ◌∷◌}
 use Rattle.script_lang.specs.LaneReading.{lane_line_of}
-use Rattle.script_lang.specs.Lines.{lines_cut}
+use Rattle.script_lang.specs.Scripts.{Script, lines_behind}
 use Rattle.script_lang.specs.declared.lane_kinds.LaneLine.{LaneLine}
 use Rattle.script_lang.specs.declared.lane_kinds.LaneLine.TheVariants as lane_line
 use Rattle.script_lang.specs.declared.lane_kinds.LaneStep.{LaneStep}
@@ -9,31 +9,16 @@ use Rattle.script_lang.specs.declared.lane_kinds.LaneStep.{LaneStep}
 -- ---- lines
 
 -- the lines before the first bad one, and the number of that one, if there is one
-pub record LaneScript : Type 0 where
-  pub lines : List LaneLine
-  pub bad : Option ℕ
-
--- a line before others; a text that is no line of the grammar is the first bad line, and has this number
-abbrev pub with_line : ℕ → Option LaneLine → LaneScript → LaneScript
-with_line number None more = record { lines = []; bad = Some number }
-with_line number (Some line) more = record { lines = line ∷ more.lines; bad = more.bad }
-
--- the lines of these texts, of which the first has this number; behind them a bad line may come
-abbrev pub lines_in : ℕ → List (List ℕ) → Bool → LaneScript
-lines_in number [] is_bad = record { lines = []; bad = if is_bad then Some number else None }
-lines_in number (text ∷ texts) is_bad = with_line number (lane_line_of text) (lines_in (number + 1) texts is_bad)
+abbrev pub LaneScript : Type 0
+LaneScript = Script LaneLine
 
 -- the lines of the rest of a script, of which so many lines were cut before
-unfoldable pub lines_behind : ℕ → List ℕ → LaneScript
-lines_behind count rest = lines_in (count + 1) (lines_cut count rest).lines (lines_cut count rest).is_bad
+abbrev pub lane_lines_behind : ℕ → List ℕ → LaneScript
+lane_lines_behind = lines_behind lane_line_of
 
 -- the lines of a lane script
 abbrev pub lane_script_of : List ℕ → LaneScript
-lane_script_of script = lines_behind 0 script
-
--- lines before those of a rest
-abbrev pub lines_before : List LaneLine → LaneScript → LaneScript
-lines_before lines rest = record { lines = lines ++ rest.lines; bad = rest.bad }
+lane_script_of script = lane_lines_behind 0 script
 
 -- ---- lanes
 

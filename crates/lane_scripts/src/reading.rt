@@ -11,7 +11,8 @@ use crate::lanes::Lanes;
 use disk_core::Source;
 use pad_words::NoMemory;
 use script_lang::{
-    LaneLine, LineFault, LineReader, Taken, lines_are_cut_one_by_one, read_lane_line,
+    LaneLine, LineFault, LineReader, Taken, read_lane_line, scripts_are_read_line_by_line,
+    texts_end_once,
 };
 use std::alloc::Global;
 
@@ -60,6 +61,7 @@ pub fn read_lanes<S: Source>(alloc: Global, source: &mut S) -> Result<Lanes, Scr
     // Failed only where the source failed.
     ensures cause { result ≡ Err ScriptFault.Failed → Rose (S.faults source.old) (S.faults source.new) }
 {
+    texts_end_once();
     let mut reader = LineReader::new(alloc)?;
     let mut lanes = Lanes::empty(alloc)?;
     let mut count = 0;
@@ -88,7 +90,8 @@ fn next_line<S: Source>(
     ensures cause { result ≡ Err ScriptFault.Failed → Rose (S.faults source.old) (S.faults source.new) }
     ensures later { S.faults source.old ≤ S.faults source.new }
 {
-    lines_are_cut_one_by_one();
+    scripts_are_read_line_by_line::<LaneLine>();
+    texts_end_once();
     match reader.next(source) {
         Ok(Taken::Line(text)) => match numbered_line(alloc, number, text) {
             Ok(line) => Ok(Some(line)),

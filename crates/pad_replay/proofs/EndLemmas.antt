@@ -19,7 +19,8 @@ use Rattle.pad_replay.specs.NextLines.{IsFirstLine}
 use Rattle.pad_replay.specs.Outcomes.{EndsUnread, GaveFront, RanAll, RanSoMany}
 use Rattle.pad_replay.specs.Parts.{BreaksPart, BrokeOff, Progress, Ran, RanFront, RanLines, RunsOnDisk, RunsPart, TakesPart}
 use Rattle.pad_replay.specs.Runs.{Played, Player, deeds_of, line_then, mark_in, mark_of, play, play_end, play_mark, play_script, play_then, played_by, played_text, program_setting, steps_of, text_from, text_of}
-use Rattle.pad_replay.specs.Script.{IsTaken, ScriptLines, feeds_in, lines_before, lines_behind, lines_of}
+use Rattle.pad_replay.specs.Script.{IsTaken, ScriptLines, feeds_in, lines_behind, lines_of}
+use Rattle.script_lang.specs.Scripts.{lines_before}
 use Rattle.pad_replay.specs.declared.script_run.Course.{Course}
 use Rattle.pad_replay.specs.declared.script_run.End.{End}
 use Rattle.pad_replay.specs.declared.script_run.End.TheVariants as ends

@@ -4,11 +4,12 @@ use Rattle.std.proofs.lemmas.Bool.Decides.{nat_tests}
 use Rattle.std.proofs.lemmas.List.{nil_from_length}
 use Rattle.std.specs.Prelude.{Bool, IfSome, List, None, Option, Some, [], drop, false, if◌then◌else◌, length, nat_lt, suc, take, true, ℕ, ◌&&◌, ◌+◌, ◌++◌, ◌<◌, ◌==◌, ◌∷◌, ◌≡◌}
 use Rattle.pad_replay.specs.NextLines.{IsNext}
-use Rattle.pad_replay.specs.Script.{feeds_in, lines_behind, lines_in, with_line as line_first}
+use Rattle.pad_replay.specs.Script.{feeds_in, lines_behind}
 use Rattle.pad_replay.specs.declared.script_reader.Next.{Next}
 use Rattle.pad_replay.specs.declared.script_reader.Next.TheVariants as next
-use Rattle.script_lang.specs.Lines.{CutBad, CutEnd, CutLine, LeavesTaken, Lines, Reader, Shows, cut_of, feed_at, has_line, lines_cut, no_lines, rest_of, still, with_line}
+use Rattle.script_lang.specs.Lines.{CutBad, CutEnd, CutLine, LeavesTaken, Reader, Shows, cut_of, feed_at, has_line, rest_of}
 use Rattle.script_lang.specs.Reading.{line_of}
+use Rattle.script_lang.specs.Scripts.{IsReadLineByLine, with_line as line_first}
 use Rattle.script_lang.specs.declared.kinds.Line.{Line}
 use Rattle.script_lang.specs.declared.line_reader.Taken.{Taken}
 use Rattle.script_lang.specs.declared.line_reader.Taken.TheVariants as taken
@@ -88,25 +89,7 @@ cut-line count text line rest is =
       subst (λ (l : List ℕ). feeds_in (l ++ 10 ∷ []) ≡ 1) (sym has.1.0) part.feeds,
     )
 
--- a text that ends has no byte
-cut-end : (count : ℕ) (text : List ℕ) → cut_of count text ≡ CutEnd → text ≡ []
-unfolding cut_of
-cut-end count text is = end-cases (length text == 0) (nat_lt count 65536 && has_line text) refl is
-  where
-    end-cases : (is_end has : Bool) → (length text == 0) ≡ is_end → (if is_end then CutEnd else if has then CutLine (take (feed_at text) text) (drop (feed_at text + 1) text) else CutBad) ≡ CutEnd → text ≡ []
-    end-cases true has told cut = nil_from_length text (grind (arith, nat_tests, told))
-    end-cases false true told cut = absurd cc
-    end-cases false false told cut = absurd cc
-
 -- ---- what comes next
-
--- where nothing is left to be cut, nothing is left of the source
-pub still-none : (kept : List ℕ) (left : Option (List ℕ)) → still kept left ≡ Some [] → left ≡ Some []
-still-none kept None none = absurd (no_text none)
-  where
-    no_text : still kept None ≡ Some [] → ⊥
-    no_text none = cc
-still-none kept (Some rest) none = let size : length (kept ++ rest) ≡ 0 = ap length (some-same (kept ++ rest) [] none) in ap (λ (r : List ℕ). Some r) (nil_from_length rest (omega (arith, size, length-append kept rest)))
 
 -- what a reader took is what comes next
 abbrev pub Reads : Taken → Next → Type 0
@@ -116,27 +99,16 @@ Reads taken.End next.End = Unit {0}
 Reads taken.Bad next.BadLine = Unit {0}
 Reads other something = ⊥
 
--- the laws of cuts
-pub record CutLaws : Type 0 where
-  pub line : (n : ℕ) (text line rest : List ℕ) → cut_of n text ≡ CutLine line rest → lines_cut n text ≡ with_line line (lines_cut (n + 1) rest)
-  pub end : (n : ℕ) (text : List ℕ) → cut_of n text ≡ CutEnd → lines_cut n text ≡ no_lines false
-  pub bad : (n : ℕ) (text : List ℕ) → cut_of n text ≡ CutBad → lines_cut n text ≡ no_lines true
+-- the laws of scripts
+abbrev ReadsOn : Type 0
+ReadsOn = (n : ℕ) (text : List ℕ) → IsReadLineByLine line_of n text
 
-module _ (laws : CutLaws) (count : ℕ) (text : List ℕ) where
-  behind-line : (line rest : List ℕ) → cut_of count text ≡ CutLine line rest → lines_behind count text ≡ line_first (count + 1) (line_of line) (lines_behind (count + 1) rest)
-  unfolding lines_behind
-  behind-line line rest is = ap (λ (all : Lines). lines_in (count + 1) all.lines all.is_bad) (laws.line count text line rest is)
+abbrev CutsEnd : Type 0
+CutsEnd = (n : ℕ) (text : List ℕ) → cut_of n text ≡ CutEnd → text ≡ []
 
-  behind-end : cut_of count text ≡ CutEnd → lines_behind count text ≡ record { lines = []; bad = None }
-  unfolding lines_behind
-  behind-end is = ap (λ (all : Lines). lines_in (count + 1) all.lines all.is_bad) (laws.end count text is)
-
-  behind-bad : cut_of count text ≡ CutBad → lines_behind count text ≡ record { lines = []; bad = Some (count + 1) }
-  unfolding lines_behind
-  behind-bad is = ap (λ (all : Lines). lines_in (count + 1) all.lines all.is_bad) (laws.bad count text is)
-
-  found : (after : Option (List ℕ)) (old new : Reader) (took : Taken) (what : Next) → old.lines ≡ count → Shows (cut_of count text) took → LeavesTaken (Some text) after old new took → Reads took what → IsNext count text after what
-  found after old new (taken.Line bytes) (next.Line line) at shows leaves reads =
+module _ (count : ℕ) (text : List ℕ) (reading : IsReadLineByLine line_of count text) where
+  found : (cut_of count text ≡ CutEnd → text ≡ []) → (after : Option (List ℕ)) (old new : Reader) (took : Taken) (what : Next) → old.lines ≡ count → Shows (cut_of count text) took → LeavesTaken (Some text) after old new took → Reads took what → IsNext count text after what
+  found ends after old new (taken.Line bytes) (next.Line line) at shows leaves reads =
       let cut = cut-line count text bytes.now shows.0 shows.1 in
       record {
         cut = bytes.now ++ 10 ∷ [];
@@ -144,19 +116,19 @@ module _ (laws : CutLaws) (count : ℕ) (text : List ℕ) where
         parts = cut.0;
         feeds = cut.1;
         left = leaves.rest ∙ ap (λ (n : ℕ). rest_of (cut_of n text)) at ∙ ap rest_of shows.1;
-        are = behind-line bytes.now shows.0 shows.1 ∙ ap (λ (l : Option Line). line_first (count + 1) l (lines_behind (count + 1) shows.0)) reads;
+        are = reading.line bytes.now shows.0 shows.1 ∙ ap (λ (l : Option Line). line_first (count + 1) l (lines_behind (count + 1) shows.0)) reads;
       }
-  found after old new (taken.Line bytes) next.BadLine at shows leaves reads = behind-line bytes.now shows.0 shows.1 ∙ ap (λ (l : Option Line). line_first (count + 1) l (lines_behind (count + 1) shows.0)) reads
-  found after old new (taken.Line bytes) next.End at shows leaves reads = absurd reads
-  found after old new taken.End next.End at shows leaves reads = record { left = leaves.0.text ∙ ap (λ (t : List ℕ). Some t) (cut-end count text shows); are = behind-end shows }
-  found after old new taken.End (next.Line line) at shows leaves reads = absurd reads
-  found after old new taken.End next.BadLine at shows leaves reads = absurd reads
-  found after old new taken.Bad next.BadLine at shows leaves reads = behind-bad shows
-  found after old new taken.Bad (next.Line line) at shows leaves reads = absurd reads
-  found after old new taken.Bad next.End at shows leaves reads = absurd reads
+  found ends after old new (taken.Line bytes) next.BadLine at shows leaves reads = reading.line bytes.now shows.0 shows.1 ∙ ap (λ (l : Option Line). line_first (count + 1) l (lines_behind (count + 1) shows.0)) reads
+  found ends after old new (taken.Line bytes) next.End at shows leaves reads = absurd reads
+  found ends after old new taken.End next.End at shows leaves reads = record { left = leaves.0.text ∙ ap (λ (t : List ℕ). Some t) (ends shows); are = reading.end shows }
+  found ends after old new taken.End (next.Line line) at shows leaves reads = absurd reads
+  found ends after old new taken.End next.BadLine at shows leaves reads = absurd reads
+  found ends after old new taken.Bad next.BadLine at shows leaves reads = reading.bad shows
+  found ends after old new taken.Bad (next.Line line) at shows leaves reads = absurd reads
+  found ends after old new taken.Bad next.End at shows leaves reads = absurd reads
 
 -- what a reader took of what was told comes next
-pub next-found : (laws : CutLaws) (told after : Option (List ℕ)) (old new : Reader) (took : Taken) (what : Next) → IfSome told (λ text. Shows (cut_of old.lines text) took) → LeavesTaken told after old new took → Reads took what
+pub next-found : (ends : CutsEnd) (reads_on : ReadsOn) (told after : Option (List ℕ)) (old new : Reader) (took : Taken) (what : Next) → IfSome told (λ text. Shows (cut_of old.lines text) took) → LeavesTaken told after old new took → Reads took what
     → IfSome told (λ text. IsNext old.lines text after what)
-next-found laws None after old new took what shows leaves reads = tt
-next-found laws (Some text) after old new took what shows leaves reads = found laws old.lines text after old new took what refl shows leaves reads
+next-found ends reads_on None after old new took what shows leaves reads = tt
+next-found ends reads_on (Some text) after old new took what shows leaves reads = found old.lines text (reads_on old.lines text) (ends old.lines text) after old new took what refl shows leaves reads

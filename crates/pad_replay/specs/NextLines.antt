@@ -1,5 +1,6 @@
 -- What comes next of a script.
-use Rattle.pad_replay.specs.Script.{feeds_in, lines_before, lines_behind}
+use Rattle.pad_replay.specs.Script.{feeds_in, lines_behind}
+use Rattle.script_lang.specs.Scripts.{lines_before}
 use Rattle.pad_replay.specs.declared.script_reader.Next.{Next}
 use Rattle.pad_replay.specs.declared.script_reader.Next.TheVariants as next
 use Rattle.script_lang.specs.Lines.{Reader}

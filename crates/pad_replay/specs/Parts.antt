@@ -10,7 +10,8 @@ use Rattle.flat_machine.specs.State.{Flat, is_off, opening}
 use Rattle.pad_machine.specs.Stands.{PadState, StandsFor}
 use Rattle.pad_steps.specs.declared.steps.DiskWord.{DiskWord}
 use Rattle.pad_replay.specs.Runs.{Player, Wordless, play_then, played_text, program_setting, text_from, with_deeds}
-use Rattle.pad_replay.specs.Script.{feeds_in, lines_before, lines_behind, lines_of}
+use Rattle.pad_replay.specs.Script.{feeds_in, lines_behind, lines_of}
+use Rattle.script_lang.specs.Scripts.{lines_before}
 use Rattle.pad_replay.specs.Tallies.{tally_after}
 use Rattle.pad_replay.specs.declared.tally.Tally.{Tally}
 use Rattle.script_lang.specs.declared.kinds.Line.{Line}

@@ -5,7 +5,9 @@ ghost use Rattle.pad_replay.specs.NextLines.{GoesOnBehind, IsNext};
 ghost use Rattle.script_lang.specs.Lines.{IsOpen, LeavesAll, still};
 
 use disk_core::Source;
-use script_lang::{Line, LineFault, LineReader, Taken, lines_are_cut_one_by_one, read_line};
+use script_lang::{
+    Line, LineFault, LineReader, Taken, read_line, scripts_are_read_line_by_line, texts_end_once,
+};
 use std::alloc::Global;
 
 /// What comes next of a script.
@@ -43,7 +45,8 @@ pub fn next_line<S: Source>(
     ensures cause { result ≡ Err ReadFault.Failed → Rose (S.faults source.old) (S.faults source.new) }
     ensures later { S.faults source.old ≤ S.faults source.new }
 {
-    lines_are_cut_one_by_one();
+    scripts_are_read_line_by_line::<Line>();
+    texts_end_once();
     match reader.next(source) {
         Ok(Taken::Line(text)) => match read_line(alloc, text) {
             Ok(line) => Ok(Next::Line(line)),

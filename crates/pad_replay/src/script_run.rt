@@ -13,7 +13,7 @@ use crate::script_reader::{Next, ReadFault, next_line};
 use disk_core::{ArmDisk, Counted, Sink, Source};
 use flat_machine::laws::disk_runs::{disk_runs_join, store_history_goes_on};
 use flat_machine::laws::twins::twins_print_alike;
-use script_lang::LineReader;
+use script_lang::{LineReader, texts_end_once};
 use std::alloc::Global;
 use transcript::PrintFault;
 
@@ -67,6 +67,7 @@ impl Replay {
         disk_runs_join::<D>();
         store_history_goes_on::<D>();
         twins_print_alike();
+        texts_end_once();
         let mut count = 0;
         loop {
             match next_line(alloc, reader, source) {

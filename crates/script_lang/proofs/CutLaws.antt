@@ -1,8 +1,10 @@
 -- The lines of a text, one by one.
-use Rattle.std.proofs.Common.{Bool, List, [], ap, arith, cond, drop, eqb, false, length, length-drop, refl, suc, sym, take, true, zero, ℕ, ◌+◌, ◌<◌, ◌∙◌, ◌∷◌, ◌≡◌, ◌≤◌}
+use Rattle.std.proofs.Common.{Bool, List, [], ap, arith, cond, drop, eqb, false, length, length-append, length-drop, refl, suc, sym, take, true, zero, ℕ, ◌+◌, ◌<◌, ◌∙◌, ◌∷◌, ◌≡◌, ◌≤◌}
 use Rattle.std.proofs.lemmas.Bool.Decides.{nat_tests}
-use Rattle.std.specs.Prelude.{nat_lt, ◌&&◌}
-use Rattle.script_lang.specs.Lines.{Cut, CutBad, CutEnd, CutLine, Lines, cut_of, feed_at, has_line, lines_cut, lines_from, lines_within, with_line}
+use Rattle.std.proofs.lemmas.List.{nil_from_length}
+use Rattle.std.specs.Prelude.{None, Option, Some, if◌then◌else◌, nat_lt, ◌&&◌, ◌++◌, ◌==◌}
+use Rattle.script_lang.specs.Lines.{Cut, CutBad, CutEnd, CutLine, Lines, cut_of, feed_at, has_line, lines_cut, lines_from, lines_within, still, with_line}
+use Rattle.script_lang.specs.Scripts.{IsReadLineByLine, lines_behind, lines_in}
 
 -- a line leaves less than the text
 abbrev Shortens : List ℕ → Cut → Type 0
@@ -56,3 +58,34 @@ lines_cut-one lines (byte ∷ bytes) =
 -- the same for a cut that is known
 pub lines_cut-of : (lines : ℕ) (text : List ℕ) (cut : Cut) → cut_of lines text ≡ cut → lines_cut lines text ≡ lines_from (lines_cut (lines + 1)) cut
 lines_cut-of lines text cut is = lines_cut-one lines text ∙ ap (lines_from (lines_cut (lines + 1))) is
+
+-- the lines of a script behind its first cut
+module _ {L : Type 0} (read : List ℕ → Option L) (count : ℕ) (text : List ℕ) where
+  pub read-line-by-line : IsReadLineByLine read count text
+  unfolding lines_behind
+  read-line-by-line = record {
+    line = λ line rest is. ap (λ (all : Lines). lines_in read (count + 1) all.lines all.is_bad) (lines_cut-of count text (CutLine line rest) is);
+    end = λ is. ap (λ (all : Lines). lines_in read (count + 1) all.lines all.is_bad) (lines_cut-of count text CutEnd is);
+    bad = λ is. ap (λ (all : Lines). lines_in read (count + 1) all.lines all.is_bad) (lines_cut-of count text CutBad is);
+  }
+
+-- a text that ends has no byte
+pub cut-end : (count : ℕ) (text : List ℕ) → cut_of count text ≡ CutEnd → text ≡ []
+unfolding cut_of
+cut-end count text is = end-cases (length text == 0) (nat_lt count 65536 && has_line text) refl is
+  where
+    end-cases : (is_end has : Bool) → (length text == 0) ≡ is_end → (if is_end then CutEnd else if has then CutLine (take (feed_at text) text) (drop (feed_at text + 1) text) else CutBad) ≡ CutEnd → text ≡ []
+    end-cases true has told cut = nil_from_length text (grind (arith, nat_tests, told))
+    end-cases false true told cut = absurd cc
+    end-cases false false told cut = absurd cc
+
+-- where nothing is left to be cut, nothing is left of the source
+some-same : (first second : List ℕ) → Some first ≡ Some second → first ≡ second
+some-same first second same = cc
+
+pub still-none : (kept : List ℕ) (left : Option (List ℕ)) → still kept left ≡ Some [] → left ≡ Some []
+still-none kept None none = absurd (no_text none)
+  where
+    no_text : still kept None ≡ Some [] → ⊥
+    no_text none = cc
+still-none kept (Some rest) none = let size : length (kept ++ rest) ≡ 0 = ap length (some-same (kept ++ rest) [] none) in ap (λ (r : List ℕ). Some r) (nil_from_length rest (omega (arith, size, length-append kept rest)))

@@ -1,6 +1,7 @@
 pub mod Words
 pub mod Spelling
 pub mod Reading
+pub mod Scripts
 pub mod Memory
 pub mod LaneSpelling
 pub mod LaneReading

@@ -1,5 +1,5 @@
 //! What holds of the grammar's definitions.
-ghost use Rattle.std.specs.Prelude.{◌≡◌, ◌↔◌, ◌+◌, ◌++◌, ◌∷◌, ℕ, List, Some, IsTrue, true, false};
+ghost use Rattle.std.specs.Prelude.{◌≡◌, ◌↔◌, ◌+◌, ◌++◌, ◌∷◌, [], ℕ, List, Option, Some, IsTrue};
 ghost use Rattle.std.specs.Fmt.{decimal};
 ghost use Rattle.pad_steps.specs.declared.steps.Step.{Step};
 ghost use Rattle.pad_steps.specs.Formed.{is_well_formed};
@@ -12,7 +12,8 @@ ghost use Rattle.script_lang.specs.declared.lane_kinds.LaneLine.TheVariants.{At}
 ghost use Rattle.script_lang.specs.declared.lane_kinds.LaneStep.TheVariants.{Plain};
 ghost use Rattle.script_lang.specs.LaneReading.{lane_line_of};
 ghost use Rattle.script_lang.specs.LaneSpelling.{is_lane, is_plain, SpellsLane};
-ghost use Rattle.script_lang.specs.Lines.{CutBad, CutEnd, CutLine, cut_of, lines_cut, no_lines, with_line};
+ghost use Rattle.script_lang.specs.Lines.{CutEnd, cut_of, still};
+ghost use Rattle.script_lang.specs.Scripts.{IsReadLineByLine};
 
 /// A printed step spells the step and is read again, no bytes spell two lines,
 /// and reading a line gives exactly the line that is spelled.
@@ -23,13 +24,16 @@ pub fn spelled_again()
     ensures exact { (line : List ℕ) (l : Line) → (line_of line ≡ Some l) ↔ Spells line l }
 {}
 
-/// The lines of a text are its first line and the lines of what that leaves, until it ends or a bad
-/// line comes.
-pub fn lines_are_cut_one_by_one()
-    ensures line { (n : ℕ) (text line rest : List ℕ) → cut_of n text ≡ CutLine line rest
-        → lines_cut n text ≡ with_line line (lines_cut (n + 1) rest) }
-    ensures end { (n : ℕ) (text : List ℕ) → cut_of n text ≡ CutEnd → lines_cut n text ≡ no_lines false }
-    ensures bad { (n : ℕ) (text : List ℕ) → cut_of n text ≡ CutBad → lines_cut n text ≡ no_lines true }
+/// A script is its first line and the script that this leaves, whatever its lines are read as, until its text ends or a
+/// bad line comes.
+pub fn scripts_are_read_line_by_line<L>()
+    ensures { (read : List ℕ → Option L) (n : ℕ) (text : List ℕ) → IsReadLineByLine read n text }
+{}
+
+/// Where a cut or a reader says that nothing is left, nothing is.
+pub fn texts_end_once()
+    ensures cut { (n : ℕ) (text : List ℕ) → cut_of n text ≡ CutEnd → text ≡ [] }
+    ensures left { (kept : List ℕ) (left : Option (List ℕ)) → still kept left ≡ Some [] → left ≡ Some [] }
 {}
 
 /// No bytes spell two lines of a lane script, and reading one gives exactly the line that is spelled. A line of a

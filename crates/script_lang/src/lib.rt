@@ -30,7 +30,9 @@ pub use fields::read_number;
 pub use kinds::{Line, LineFault};
 pub use lane_kinds::{LaneId, LaneLine, LaneStep};
 pub use lane_reading::read_lane_line;
-pub use laws::{lane_lines_are_spelled, lines_are_cut_one_by_one, spelled_again};
+pub use laws::{
+    lane_lines_are_spelled, scripts_are_read_line_by_line, spelled_again, texts_end_once,
+};
 pub use line_reader::{LineReader, Taken};
 pub use reading::read_line;
 pub use writing::write_step;

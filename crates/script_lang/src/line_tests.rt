@@ -2,7 +2,7 @@
 ghost use Rattle.std.specs.Prelude.{◌<◌, ◌≤◌, length};
 ghost use Rattle.script_lang.specs.Lines.{Reader};
 
-use crate::{LineReader, Taken, lines_are_cut_one_by_one};
+use crate::{Line, LineReader, Taken, scripts_are_read_line_by_line};
 use disk_core::{Calls, Failed, MemSource};
 use pad_words::{NoMemory, Octets};
 use std::alloc::Global;
@@ -169,7 +169,7 @@ fn wrong_case(alloc: Global, cases: &[Case], piece: usize) -> Result<Option<usiz
 
 #[test]
 fn lines_in_any_pieces(rt: HostRuntime) {
-    lines_are_cut_one_by_one();
+    scripts_are_read_line_by_line::<Line>();
     assert_eq!(rt; wrong_case(rt.alloc(), TEXTS, 1), Ok(None));
     assert_eq!(rt; wrong_case(rt.alloc(), TEXTS, 2), Ok(None));
     assert_eq!(rt; wrong_case(rt.alloc(), TEXTS, 7), Ok(None));

@@ -1,7 +1,6 @@
 use Rattle.std.proofs.Common.{ap, arith, refl, subst, sym, ◌∙◌}
 use Rattle.std.specs.Prelude.{Err, [], length, ℕ, ◌+◌}
 use Rattle.lane_scripts.proofs.LaneLemmas.{formed-line, formed-none, lanes_of-none, length-line}
-use Rattle.lane_scripts.proofs.LineLemmas.{still-none}
 use Rattle.lane_scripts.proofs.ReadLemmas.{bad-fact, handed-fault, if_some-some, if_some-then, next-fact, read-bad, read-line, read-none}
 use Rattle.lane_scripts.specs.NextLines.{AreFormed, GoesOn, IsEnd, IsFirstLine}
 use Rattle.lane_scripts.specs.declared.reading.ScriptFault.{ScriptFault}
@@ -41,7 +40,7 @@ returns-clause-read g c =
     let after = still c.next_line.new.reader.kept (g.S.Source.left c.next_line.new.source) in
     if_some-then (g.S.Source.left c.args.source.now) (λ script read.
     let end : IsEnd c.loop-lanes.count read.rest after = rw c.in_default.is at (next-fact (still c.loop-lanes.reader.kept (g.S.Source.left c.loop-lanes.source)) after read.rest c.loop-lanes.reader.lines c.loop-lanes.count c.in_ok-line.field-0 read.told c.loop-lanes.invariant.lines c.in_ok-line.ensures.next) in
-    still-none c.next_line.new.reader.kept _ end.left) c.loop-lanes.invariant.read
+    c.texts_end_once.ensures.left c.next_line.new.reader.kept _ end.left) c.loop-lanes.invariant.read
 
 pub returns-in_err-line-clause-bad_line : goal.returns-in_err-line-clause-bad_line
 returns-in_err-line-clause-bad_line g c = λ n is.

@@ -7,7 +7,7 @@ use Rattle.flat_machine.specs.KeyLayout.{key_layout}
 use Rattle.flat_machine.specs.State.{opening}
 use Rattle.pad_replay.proofs.DiskLemmas.{if_some-some, if_some-then}
 use Rattle.pad_replay.proofs.EndLemmas.{end-whole, ends-at-bad-line, ends-in-line, ends-unread-at, ran-line, ran-no_line, taken-of, text-fact}
-use Rattle.pad_replay.proofs.ScriptLemmas.{feeds_in-open, still-none}
+use Rattle.pad_replay.proofs.ScriptLemmas.{feeds_in-open}
 use Rattle.pad_replay.specs.NextLines.{IsEnd, IsFirstLine, IsNext}
 use Rattle.pad_replay.specs.Runs.{program_setting}
 use Rattle.script_lang.specs.Lines.{still}
@@ -51,7 +51,7 @@ pub returns-in-Ok-End-clause-ends : goal.returns-in-Ok-End-clause-ends
 returns-in-Ok-End-clause-ends g c = if_some-then (g.S.Source.left c.args.source.now) (λ script fact seed stands.
     let found : IsNext c.loop-line.count fact.0 (still c.next_line.new.reader.kept (g.S.Source.left c.next_line.new.source)) c.in-Ok-End.field-0 = subst (λ (n : ℕ). IsNext n fact.0 (still c.next_line.new.reader.kept (g.S.Source.left c.next_line.new.source)) c.in-Ok-End.field-0) c.loop-line.invariant.lines (text-fact (still c.loop-line.reader.kept (g.S.Source.left c.loop-line.source)) fact.0 (λ text. IsNext c.loop-line.reader.lines text (still c.next_line.new.reader.kept (g.S.Source.left c.next_line.new.source)) c.in-Ok-End.field-0) fact.1 c.in-Ok-End.ensures.next) in
     let last : IsEnd c.loop-line.count fact.0 (still c.next_line.new.reader.kept (g.S.Source.left c.next_line.new.source)) = rw c.in-Ok-End.field-0-is at found in
-    end-whole seed script (λ acts twin twins. c.twins_print_alike.ensures (program_setting seed) opening acts twin twins) c.loop-line.count fact.0 _ _ _ c.requires.told (fact.2 seed stands) _ _ (λ deeds unread on. c.store_history_goes_on.ensures.unloaded key_layout (program_setting seed) opening deeds c.args.disk.now c.loop-line.disk refl refl unread on) refl refl last.are (still-none c.next_line.new.reader.kept _ last.left) refl refl refl) c.loop-line.invariant.ran
+    end-whole seed script (λ acts twin twins. c.twins_print_alike.ensures (program_setting seed) opening acts twin twins) c.loop-line.count fact.0 _ _ _ c.requires.told (fact.2 seed stands) _ _ (λ deeds unread on. c.store_history_goes_on.ensures.unloaded key_layout (program_setting seed) opening deeds c.args.disk.now c.loop-line.disk refl refl unread on) refl refl last.are (c.texts_end_once.ensures.left c.next_line.new.reader.kept _ last.left) refl refl refl) c.loop-line.invariant.ran
 
 pub returns-in-Ok-BadLine-clause-ends : goal.returns-in-Ok-BadLine-clause-ends
 returns-in-Ok-BadLine-clause-ends g c = if_some-then (g.S.Source.left c.args.source.now) (λ script fact seed stands.
