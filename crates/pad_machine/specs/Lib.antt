@@ -1,8 +1,10 @@
 pub mod Does
 pub mod Endings
+pub mod Jobs
 pub mod Memory
 pub mod Prepares
 pub mod Replacing
 pub mod Runs
 pub mod Stands
 pub mod Twice
+pub mod TwiceSteps

@@ -1,9 +1,10 @@
 //! The pad and its step.
-ghost use Rattle.std.specs.Prelude.{◌≡◌, ◌<◌, ◌≤◌, ◌+◌, ◌-◌, ◌^◌, ℕ, List, IsTrue, IfOk, IfSome, IsOk, OnErr, OnOk, Some, false, length, true};
+ghost use Rattle.std.specs.Prelude.{◌≡◌, ◌<◌, ◌≤◌, ◌+◌, ◌-◌, ◌^◌, ℕ, List, IsTrue, IfOk, IfSome, IsOk, None, OnErr, OnOk, Some, false, length, true};
 ghost use Rattle.flat_machine.specs.Machine.{has_pin, is_masked, next_work, status};
 ghost use Rattle.flat_machine.specs.RequestFacts.{draws, work_left};
 ghost use Rattle.flat_machine.specs.State.{Flat, is_off, is_ready, opening};
 ghost use Rattle.pad_machine.specs.Does.{Undone};
+ghost use Rattle.pad_machine.specs.Jobs.{job_of};
 ghost use Rattle.pad_machine.specs.Memory.{places_for, takes_memory};
 ghost use Rattle.pad_machine.specs.Runs.{HistoryGoesOn, IsKeptStep, IsMachineStep, IsPadStep, PadIsTied, PadStepOnDisk, Unwinds};
 ghost use Rattle.pad_machine.specs.Stands.{StandsFor, status_with};
@@ -13,6 +14,7 @@ mod twice;
 
 use crate::keyless::{pressed_key, without_key};
 use crate::parts::Parts;
+use crypt_commands::{CryptDone, CryptJob};
 use disk_core::PowerDisk;
 use flat_machine::laws::devices::few_words_are_drawn;
 use flat_machine::laws::disk_runs::store_history_goes_on;
@@ -98,14 +100,15 @@ impl<W: PinWork + Drop> Pad<W> {
             work_left self.new.kept.shared.requests < work_left self.old.kept.shared.requests) }
         ensures ids { OnOk result (length self.new.kept.shared.requests ≤ length self.old.kept.shared.requests + draws step.now) }
     {
-        self.take_step(disk, step, out)
+        self.take_step(disk, step, None, out)
     }
 
-    // Takes one step, as `step` does, and tells of what is kept too.
+    // Takes one step, as `step` does, and tells of what is kept too. `done` is a command CRYPT that was run before.
     fn take_step<D: PowerDisk>(
         &mut self,
         disk: &mut D,
         step: &Step,
+        done: Option<&CryptDone>,
         out: &mut Outs,
     ) -> Result<Stepped, NoMemory>
         requires formed { IsTrue (is_well_formed step.now) }
@@ -127,8 +130,20 @@ impl<W: PinWork + Drop> Pad<W> {
         pending_stay_sound();
         few_words_are_drawn();
         store_history_goes_on::<D>();
-        let prepared = self.parts.prepare(without_key(step), out)?;
+        let prepared = self.parts.prepare(without_key(step), done, out)?;
         Ok(self.parts.perform(disk, prepared, pressed_key(step), out))
+    }
+
+    /// The command CRYPT in work, to be run apart from the pad. There is a job exactly where the device is ready, the
+    /// request in work is of such a command, and its keys are permitted their uses; no command of a PIN becomes one.
+    /// Memory is wanted where there is a job alone.
+    pub fn job(&self) -> Result<Option<CryptJob>, NoMemory>
+        ensures state { IfOk result (λ job. (seed : List ℕ) (state : Flat) →
+            StandsFor self.now seed state → job ≡ job_of state.shared) }
+        ensures kept { IfOk result (λ job. job ≡ job_of self.now.kept.shared) }
+        ensures memory { job_of self.now.kept.shared ≡ None → IsOk result }
+    {
+        self.parts.job()
     }
 
     /// The bytes of the store, of a device that is ready.

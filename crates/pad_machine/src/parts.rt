@@ -8,6 +8,7 @@ ghost use Rattle.flat_machine.specs.Power.{word_fate};
 ghost use Rattle.flat_machine.specs.State.{opening, running_entry};
 ghost use Rattle.key_source.specs.declared.Key.{Key};
 ghost use Rattle.pad_machine.specs.Does.{Becomes, Does};
+ghost use Rattle.pad_machine.specs.Jobs.{job_of};
 ghost use Rattle.pad_machine.specs.Memory.{places_for, takes_memory};
 ghost use Rattle.pad_machine.specs.Prepares.{IsPlanned, IsPrepared, IsFormed, calls_of, deciding, effect_of, is_plain, places_of, pressed, said_of, switch_of, with_key};
 ghost use Rattle.pad_machine.specs.Stands.{DrawnFew, IsSound, StandsFor, kept_by, pad_state, running_of, set_by, shared_of, status_with};
@@ -25,6 +26,7 @@ use crate::prepared::Prepared;
 use crate::running_entry::RunningEntry;
 use crate::saying::say;
 use crate::shared_part::Shared;
+use crypt_commands::{CryptDone, CryptJob};
 use disk_core::PowerDisk;
 use flat_machine::laws::devices::quiet_steps_leave_the_disk;
 use key_attributes::KeyRow;
@@ -114,8 +116,23 @@ impl<W: PinWork + Drop> Parts<W> {
         self.shared.running_entry()
     }
 
-    /// What a step comes to. All that may want memory is done here, and no digit is seen. All is as before, but for places.
-    pub fn prepare(&mut self, step: KeylessStep, out: &mut Outs) -> Result<Prepared, NoMemory>
+    /// The command CRYPT in work as a job, where the device is ready and the uses of its keys are permitted.
+    pub fn job(&self) -> Result<Option<CryptJob>, NoMemory>
+        requires { IsSound W.rules (shared_of self.now.common) }
+        ensures job { IfOk result (λ job. job ≡ job_of (shared_of self.now.common)) }
+        ensures memory { job_of (shared_of self.now.common) ≡ None → IsOk result }
+    {
+        self.shared.job()
+    }
+
+    /// What a step comes to. `done` is a command CRYPT that was run before. All that may want memory is done here, and no
+    /// digit is seen. All is as before, but for places.
+    pub fn prepare(
+        &mut self,
+        step: KeylessStep,
+        done: Option<&CryptDone>,
+        out: &mut Outs,
+    ) -> Result<Prepared, NoMemory>
         requires sound { IsSound W.rules (shared_of self.old.common) }
         requires taken { IsFormed step }
         requires ids { length self.old.common.requests < 2 ^ 32 - 2 }
@@ -133,7 +150,7 @@ impl<W: PinWork + Drop> Parts<W> {
             places_for (shared_of self.old.common) (with_key step.entry key) ≤ out.old.spare → IsOk result }
     {
         let held = self.held.digits().len();
-        self.shared.prepare(step, held, out)
+        self.shared.prepare(step, done, held, out)
     }
 
     /// Does what was prepared, with the key of a press. It takes no memory.

@@ -9,6 +9,7 @@ ghost use Rattle.flat_machine.specs.Machine.{next_boot, next_off, next_work};
 ghost use Rattle.flat_machine.specs.RequestSteps.{next_submit};
 ghost use Rattle.flat_machine.specs.State.{device_refusal, opening, owner_of, running_entry};
 ghost use Rattle.key_source.specs.declared.Key.{Key};
+ghost use Rattle.pad_machine.specs.Jobs.{job_of};
 ghost use Rattle.pad_machine.specs.Memory.{decides_list, pending_in_all, places_for, takes_memory};
 ghost use Rattle.pad_machine.specs.Prepares.{AlwaysComesTo, ComesTo, IsCopy, IsInWork, IsNext, IsPartSized, IsPlanned, IsReady, IsStep, IsFormed, IsUnready, Prepares, deciding, next_owner, ready_work, session_refusal, told_of, with_key};
 ghost use Rattle.pad_machine.specs.Stands.{IsSound, is_admitted, running_of, set_by, shared_of};
@@ -23,7 +24,7 @@ mod powering;
 mod sessions;
 mod status;
 
-use crate::crypts::crypt_work;
+use crate::crypts::{crypt_job, crypt_work};
 use crate::doubt::Doubt;
 use crate::imports::import_work;
 use crate::keyless::KeylessStep;
@@ -32,6 +33,7 @@ use crate::prepared::Prepared;
 use crate::refusals::refused;
 use crate::running_entry::RunningEntry;
 use crate::submits::command_refusal;
+use crypt_commands::{CryptDone, CryptJob};
 use device_lock::Lock;
 use entry_core::Entry;
 use flat_machine::laws::kept::pending_commands_pass;
@@ -152,10 +154,30 @@ impl<W: PinWork + Drop> Shared<W> {
         }
     }
 
-    /// What a step comes to, at this number of held digits. All is as before, but for places.
+    /// The command CRYPT in work as a job, where the device is ready and the uses of its keys are permitted.
+    pub fn job(&self) -> Result<Option<CryptJob>, NoMemory>
+        requires { IsSound W.rules (shared_of self.now) }
+        ensures job { IfOk result (λ job. job ≡ job_of (shared_of self.now)) }
+        ensures memory { job_of (shared_of self.now) ≡ None → IsOk result }
+    {
+        if self.device != Device::Ready {
+            return Ok(None);
+        }
+        let Some(owner) = self.in_work() else {
+            return Ok(None);
+        };
+        match self.command_of(owner.id) {
+            Some(Command::Crypt(request)) => crypt_job(self.alloc, &self.keys, owner.id, request),
+            _ => Ok(None),
+        }
+    }
+
+    /// What a step comes to, at this number of held digits. `done` is a command CRYPT that was run before. All is as
+    /// before, but for places.
     pub fn prepare(
         &mut self,
         step: KeylessStep,
+        done: Option<&CryptDone>,
         held: usize,
         out: &mut Outs,
     ) -> Result<Prepared, NoMemory>
@@ -183,7 +205,7 @@ impl<W: PinWork + Drop> Shared<W> {
             }
             KeylessStep::Cancel(session, id) => self.prepare_cancel(session, id, out),
             KeylessStep::Begin => self.prepare_begin(out),
-            KeylessStep::Finish => self.prepare_finish(held, out),
+            KeylessStep::Finish => self.prepare_finish(done, held, out),
             KeylessStep::Press => self.prepare_press(out),
             KeylessStep::Tick(ticks) => self.prepare_tick(ticks, out),
             KeylessStep::Ask(session, question) => self.prepare_ask(held, session, question, out),
@@ -346,7 +368,12 @@ impl<W: PinWork + Drop> Shared<W> {
     }
 
     // What Finish comes to, at this number of held digits.
-    fn prepare_finish(&self, held: usize, out: &mut Outs) -> Result<Prepared, NoMemory>
+    fn prepare_finish(
+        &self,
+        done: Option<&CryptDone>,
+        held: usize,
+        out: &mut Outs,
+    ) -> Result<Prepared, NoMemory>
         requires sound { IsSound W.rules (shared_of self.now) }
         requires few { held ≤ 16 }
         ensures ready { IfOk result (λ prepared. IsReady W.rules self.now self.now held out.old out.new prepared) }
@@ -370,7 +397,7 @@ impl<W: PinWork + Drop> Shared<W> {
         if matches!(command, Command::Reset) {
             return Ok(Prepared::Reset(owner, self.copy_of_rows()?));
         }
-        let work = self.decide(held, command)?;
+        let work = self.decide(held, owner.id, command, done)?;
         let told = told(self.alloc, &work)?;
         Ok(Prepared::Finish(owner, work, told))
     }
@@ -396,8 +423,14 @@ impl<W: PinWork + Drop> Shared<W> {
         }
     }
 
-    // What a command comes to now, at this number of held digits.
-    fn decide(&self, held: usize, command: &Command) -> Result<Work, NoMemory>
+    // What the command of the request with this id comes to now, at this number of held digits.
+    fn decide(
+        &self,
+        held: usize,
+        id: u32,
+        command: &Command,
+        done: Option<&CryptDone>,
+    ) -> Result<Work, NoMemory>
         requires admitted { IsTrue (is_admitted W.rules command.now) }
         requires few { held ≤ 16 }
         ensures work { IfOk result (λ work.
@@ -413,13 +446,19 @@ impl<W: PinWork + Drop> Shared<W> {
             Command::RsaImport => Ok(refused(Refusal::UnsuppCommand)),
             _ => match self.device_refusal() {
                 Some(refusal) => Ok(refused(refusal)),
-                None => self.decide_ready(held, command),
+                None => self.decide_ready(held, id, command, done),
             },
         }
     }
 
     // What a command comes to on a device that does not refuse it.
-    fn decide_ready(&self, held: usize, command: &Command) -> Result<Work, NoMemory>
+    fn decide_ready(
+        &self,
+        held: usize,
+        id: u32,
+        command: &Command,
+        done: Option<&CryptDone>,
+    ) -> Result<Work, NoMemory>
         requires admitted { IsTrue (is_admitted W.rules command.now) }
         requires few { held ≤ 16 }
         requires device { device_refusal self.now.device ≡ None }
@@ -430,7 +469,7 @@ impl<W: PinWork + Drop> Shared<W> {
         match command {
             Command::MaintainPin(on) => Ok(Work::Maintain(*on)),
             Command::Pin(request) => pin_work(self.alloc, &self.work, &self.keys, held, request),
-            Command::Crypt(request) => crypt_work(self.alloc, &self.keys, request),
+            Command::Crypt(request) => crypt_work(self.alloc, &self.keys, id, request, done),
             Command::ImportKey(request) => Ok(import_work(&self.keys, &self.part, request)),
             Command::DeleteKey(name) => match self.keys.slot_of(name) {
                 Some(slot) => Ok(Work::Erase(slot)),

@@ -1,5 +1,12 @@
 //! A step that is told twice, beside the same step of an equal pad: its lists and its word are the same three times.
+ghost use Rattle.std.specs.Prelude.{◌≡◌, IfOk};
+ghost use Rattle.pad_steps.specs.declared.commands.Algorithm.TheVariants.{Ecb};
+ghost use Rattle.pad_steps.specs.declared.commands.Start.TheVariants.{Zero};
+
+mod jobs;
+
 use crate::{Pad, Stepped};
+use crypt_commands::{CryptDone, CryptJob};
 use disk_core::MemDisk;
 use local_check::StandardWork;
 use pad_steps::{
@@ -69,6 +76,26 @@ impl Device {
         self.taken += 1;
         Ok(both)
     }
+
+    // Takes Finish with a command that was run before.
+    fn step_done(
+        &mut self,
+        done: &CryptDone,
+        outs: &mut Outs,
+        second: &mut Outs,
+    ) -> Result<(Stepped, Stepped), Fail> {
+        if self.taken >= 100 {
+            return Err("a step of a short run")?;
+        }
+        let both = self.pad.step_done(&mut self.disk, done, outs, second)?;
+        self.taken += 1;
+        Ok(both)
+    }
+
+    // The command in work, to be run apart from the pad.
+    fn job(&self) -> Result<Option<CryptJob>, Fail> {
+        Ok(self.pad.job()?)
+    }
 }
 
 /// How long a list is, and its bytes, or its last name.
@@ -97,26 +124,30 @@ fn listed<'a>(outs: &'a Outs, word: &'a DiskWord) -> Listed<'a> {
 fn import(alloc: Global, session: Session, name: &[u8]) -> Result<Step, Fail> {
     let request = ImportRequest {
         name: KeyName::read(name).ok_or("a name")?,
-        source: ImportSource::Clear(Octets::copy(
-            alloc,
-            &[0x01, 0x23, 0x45, 0x67, 0x89, 0xAB, 0xCD, 0xEF],
-        )?),
+        source: ImportSource::Clear(Octets::copy(alloc, KEY)?),
         uses: 1,
         verify: Verify::Nothing,
     };
     Ok(Step::Submit(session, 0, Command::ImportKey(request)))
 }
 
-// A Submit that encrypts under the key of this name.
-fn encrypt(alloc: Global, session: Session, name: &[u8], clear: &[u8]) -> Result<Step, Fail> {
-    let request = CryptRequest {
+// A command that encrypts under the key of this name.
+fn encryption(alloc: Global, name: &[u8], clear: &[u8]) -> Result<CryptRequest, Fail>
+    ensures { IfOk result (λ request. (request.algorithm ≡ Ecb) × (request.start ≡ Zero)) }
+{
+    Ok(CryptRequest {
         algorithm: Algorithm::Ecb,
         direction: Direction::Encrypt,
         key: KeyName::read(name).ok_or("a name")?,
         start: Start::Zero,
         pad: 0,
         body: Octets::copy(alloc, clear)?,
-    };
+    })
+}
+
+// A Submit that encrypts under the key of this name.
+fn encrypt(alloc: Global, session: Session, name: &[u8], clear: &[u8]) -> Result<Step, Fail> {
+    let request = encryption(alloc, name, clear)?;
     Ok(Step::Submit(session, 0, Command::Crypt(request)))
 }
 
@@ -181,7 +212,10 @@ fn step_of(alloc: Global, session: Session, case: Case) -> Result<Step, Fail> {
     }
 }
 
-/// What eight bytes are under the key of the tests (NBS 500-20).
+/// The key of the tests.
+const KEY: &[u8] = &[0x01, 0x23, 0x45, 0x67, 0x89, 0xAB, 0xCD, 0xEF];
+
+/// What eight bytes are under that key (NBS 500-20).
 const SEALED: &[u8] = &[0x3F, 0xA4, 0x0E, 0x8A, 0x98, 0x4D, 0x48, 0x15];
 
 /// Each step, and the list that it tells: an answer of CRYPT, the names of keys, that answer once more, and rows.

@@ -1,4 +1,5 @@
 pub mod Entries
+pub mod Machines
 pub mod Numbers
 pub mod Rules
 pub mod Turns

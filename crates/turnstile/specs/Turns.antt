@@ -11,17 +11,17 @@ use Rattle.turnstile.specs.Rules.{made_by, entries_of, StartsWith, NotesTrue, pa
 use Rattle.turnstile.specs.Numbers.{TellsPasses, AreWhole, IsPlaceOf}
 use Rattle.turnstile.specs.Entries.{entry}
 
-module _ {X O R : Type 0} where
+-- what contracts see of a pass
+abbrev pub view : {X O R : Type 0} → Seat (Option (Held X O R)) (PassView O R) → PassView O R
+view pass = pass.me.0
+
+module _ {X O R P H : Type 0} where
   -- the machine that the turn was made with, as it was then
-  abbrev pub made_with : Turn X O R → X
+  abbrev pub made_with : Turn X O R P H → X
   made_with turn = turn.table.shared.key.value
 
-  -- what contracts see of a pass
-  abbrev pub view : Seat (Option (Held X O R)) (PassView O R) → PassView O R
-  view pass = pass.me.0
-
   -- the pass is of this turn, and no step of it is under way
-  abbrev pub IsPassOf : Turn X O R → Seat (Option (Held X O R)) (PassView O R) → Type 0
+  abbrev pub IsPassOf : Turn X O R P H → Seat (Option (Held X O R)) (PassView O R) → Type 0
   IsPassOf turn pass = (pass.table_id ≡ turn.table.shared.table_id) × (pass.me.1 ≡ []) × (pass.me.0.stage ≡ Idle)
 
 module _ {O R : Type 0} where

@@ -127,8 +127,13 @@ impl<M: Machine> Turn<M> {
         self.await_turn(rt, pass, ticket);
     }
 
-    // Applies the operation to the machine in the slot.
-    fn apply(&self, pass: &mut Pass<M>, op: M::Op) -> Result<Entered<M::Outcome>, CallFault<M::Op>>
+    // Applies the operation to the machine in the slot, with what help there is.
+    fn apply(
+        &self,
+        pass: &mut Pass<M>,
+        op: M::Op,
+        help: Option<M::Help>,
+    ) -> Result<Entered<M::Outcome>, CallFault<M::Op>>
         requires pass { pass.old.table_id ≡ self.now.table.shared.table_id }
         requires held { Carries (StandsFrom M.stands M.origin (view pass.old).origin) pass.old.me (entries_of (view pass.old).seen) }
         requires short { length (view pass.old).seen ≤ 1048576 }
@@ -139,7 +144,21 @@ impl<M: Machine> Turn<M> {
         ensures refused { IfErr result (Refuses op (length (view pass.new).seen)) }
     {
         match pass.slot_mut(&self.table.shared, 0) {
-            Some(held) => held.apply(op),
+            Some(held) => held.apply(op, help),
+            None => unreachable!(),
+        }
+    }
+
+    // What the machine in the slot hands out.
+    fn part_in_slot(&self, pass: &mut Pass<M>) -> Result<Option<M::Part>, NoMemory>
+        requires pass { pass.old.table_id ≡ self.now.table.shared.table_id }
+        requires held { Carries (StandsFrom M.stands M.origin (view pass.old).origin) pass.old.me (entries_of (view pass.old).seen) }
+        ensures pass { (pass.new.table_id ≡ pass.old.table_id) × (pass.new.id ≡ pass.old.id) × (pass.new.me.0 ≡ pass.old.me.0) }
+        ensures held { Carries (StandsFrom M.stands M.origin (view pass.new).origin) pass.new.me (entries_of (view pass.new).seen) }
+        ensures fits { IfOk result (λ part. M.part_fits part (entries_of (view pass.new).seen)) }
+    {
+        match pass.slot_mut(&self.table.shared, 0) {
+            Some(held) => held.machine.part(),
             None => unreachable!(),
         }
     }
@@ -174,6 +193,42 @@ impl<M: Machine> Turn<M> {
         self.table.shared.store::<Post>(pass, BOARD, board);
     }
 
+    // Waits for a turn of its own, and enters the operation, which is applied with what help there is.
+    fn enter<W: Wait>(
+        &self,
+        rt: &W,
+        pass: &mut Pass<M>,
+        op: M::Op,
+        help: Option<M::Help>,
+    ) -> Result<Given<M::Outcome>, CallFault<M::Op>>
+        requires pass { IsPassOf self.now pass.old }
+        requires allowed { M.allows op }
+        ensures pass { IsPassOf self.now pass.new }
+        ensures kept { view pass.new ≡ record (view pass.old) { seen = (view pass.new).seen; mine = (view pass.new).mine } }
+        ensures entered { IfOk result (λ g. Enters M.legal M.status_after (view pass.old) g.place op g.outcome (view pass.new)) }
+        ensures seen { OnErr result (Sees M.legal M.status_after (view pass.old) (view pass.new)) }
+        ensures refused { IfErr result (Refuses op (length (view pass.new).seen)) }
+    {
+        self.begin(rt, pass);
+        match self.apply(pass, op, help) {
+            Ok(
+                Entered {
+                    place,
+                    outcome,
+                    board,
+                },
+            ) => {
+                self.post(pass, board);
+                self.finish(pass);
+                Ok(Given { place, outcome })
+            }
+            Err(fault) => {
+                self.finish(pass);
+                Err(fault)
+            }
+        }
+    }
+
     /// Waits for a turn of its own, applies the operation to the machine, and enters it with its outcome at the end of the
     /// history, under the pass's number. The promise holds if the call returns. Where it is refused nothing is entered, and
     /// the operation comes back.
@@ -191,24 +246,40 @@ impl<M: Machine> Turn<M> {
         ensures seen { OnErr result (Sees M.legal M.status_after (view pass.old) (view pass.new)) }
         ensures refused { IfErr result (Refuses op (length (view pass.new).seen)) }
     {
+        self.enter(rt, pass, op, None)
+    }
+
+    /// Calls as `call` does, with the help of what came of a part. The help is let go, whether it served or not.
+    pub fn call_with<W: Wait>(
+        &self,
+        rt: &W,
+        pass: &mut Pass<M>,
+        op: M::Op,
+        help: M::Help,
+    ) -> Result<Given<M::Outcome>, CallFault<M::Op>>
+        requires pass { IsPassOf self.now pass.old }
+        requires allowed { M.allows op }
+        ensures pass { IsPassOf self.now pass.new }
+        ensures kept { view pass.new ≡ record (view pass.old) { seen = (view pass.new).seen; mine = (view pass.new).mine } }
+        ensures entered { IfOk result (λ g. Enters M.legal M.status_after (view pass.old) g.place op g.outcome (view pass.new)) }
+        ensures seen { OnErr result (Sees M.legal M.status_after (view pass.old) (view pass.new)) }
+        ensures refused { IfErr result (Refuses op (length (view pass.new).seen)) }
+    {
+        self.enter(rt, pass, op, Some(help))
+    }
+
+    /// Waits for a turn of its own, and gives what the machine hands out after the history, which the pass has then seen.
+    /// Nothing is entered. Others call while it is worked on. The promise holds if the call returns.
+    pub fn part<W: Wait>(&self, rt: &W, pass: &mut Pass<M>) -> Result<Option<M::Part>, NoMemory>
+        requires { IsPassOf self.now pass.old }
+        ensures pass { IsPassOf self.now pass.new }
+        ensures seen { Sees M.legal M.status_after (view pass.old) (view pass.new) }
+        ensures fits { IfOk result (λ part. M.part_fits part (entries_of (view pass.new).seen)) }
+    {
         self.begin(rt, pass);
-        match self.apply(pass, op) {
-            Ok(
-                Entered {
-                    place,
-                    outcome,
-                    board,
-                },
-            ) => {
-                self.post(pass, board);
-                self.finish(pass);
-                Ok(Given { place, outcome })
-            }
-            Err(fault) => {
-                self.finish(pass);
-                Err(fault)
-            }
-        }
+        let part = self.part_in_slot(pass);
+        self.finish(pass);
+        part
     }
 
     /// A turn of this machine, which stands for the empty history, and its first pass. The machine is dropped where memory

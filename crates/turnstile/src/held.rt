@@ -1,8 +1,10 @@
 //! The machine with its history, as it lies in the turn's slot.
 ghost use Rattle.std.specs.Prelude.{◌≡◌, ◌<◌, ◌≤◌, ◌+◌, ◌*◌, ◌^◌, ◌++◌, ◌∷◌, [], length, IfOk, IfErr, OnErr};
 ghost use Rattle.turnstile.specs.Entries.{entry, Refuses};
+ghost use Rattle.turnstile.specs.Machines.{Appends, HasRoom};
 
 use crate::machine::{CallFault, Entry, Machine};
+use pad_words::NoMemory;
 
 /// How many entries a history may have.
 pub const MOST_ENTRIES: usize = 1048576;
@@ -22,8 +24,13 @@ pub struct Entered<R> {
 }
 
 impl<M: Machine> Held<M, M::Op, M::Outcome> {
-    /// Applies an operation and puts the entry behind the history. Room is made before the machine is changed.
-    pub fn apply(&mut self, op: M::Op) -> Result<Entered<M::Outcome>, CallFault<M::Op>>
+    /// Applies an operation, with what help there is, and puts the entry behind the history. Room is made before the
+    /// machine is changed.
+    pub fn apply(
+        &mut self,
+        op: M::Op,
+        help: Option<M::Help>,
+    ) -> Result<Entered<M::Outcome>, CallFault<M::Op>>
         requires stands { M.stands self.old.machine self.old.history.items }
         requires allowed { M.allows op }
         requires short { length self.old.history.items ≤ 1048576 }
@@ -41,7 +48,7 @@ impl<M: Machine> Held<M, M::Op, M::Outcome> {
         if self.history.reserve(1).is_err() {
             return Err(CallFault::NoMemory(op));
         }
-        let Ok((kept, given)) = self.machine.apply(&op) else {
+        let Ok((kept, given)) = apply_to(&mut self.machine, &op, help) else {
             return Err(CallFault::NoMemory(op));
         };
         self.history.push_reserved(Entry { op, outcome: kept });
@@ -61,5 +68,24 @@ impl<M: Machine> Held<M, M::Op, M::Outcome> {
         ensures below { M.status_after self.now.history.items < 2 ^ 43 }
     {
         self.history.len() as u64 * (1 << 43) + self.machine.status()
+    }
+}
+
+// Applies an operation to a machine, with what help there is.
+fn apply_to<M: Machine>(
+    machine: &mut M,
+    op: &M::Op,
+    help: Option<M::Help>,
+) -> Result<(M::Outcome, M::Outcome), NoMemory>
+    requires room { HasRoom M.stands machine.old }
+    requires allowed { M.allows op.now }
+    ensures twice { IfOk result (λ given. given.0 ≡ given.1) }
+    ensures entered { IfOk result (λ given. Appends M.stands machine.old machine.new op.now given.0) }
+    ensures origin { M.origin machine.new ≡ M.origin machine.old }
+    ensures unchanged { OnErr result (machine.new ≡ machine.old) }
+{
+    match help {
+        Some(help) => machine.apply_with(op, &help),
+        None => machine.apply(op),
     }
 }

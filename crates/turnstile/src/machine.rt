@@ -1,7 +1,7 @@
 //! What stands behind a turn.
-ghost use Rattle.std.specs.Prelude.{◌≡◌, ℕ, ◌<◌, ◌^◌, ◌++◌, ◌∷◌, [], List, length, IfOk, OnErr};
+ghost use Rattle.std.specs.Prelude.{◌≡◌, ℕ, ◌<◌, ◌^◌, [], List, Option, IfOk, OnErr};
 ghost use Rattle.turnstile.specs.declared.machine.Entry.{Entry};
-ghost use Rattle.turnstile.specs.Entries.{entry};
+ghost use Rattle.turnstile.specs.Machines.{HasRoom, Appends};
 
 use pad_words::NoMemory;
 
@@ -27,6 +27,12 @@ pub trait Machine: Drop {
 
     type Outcome: Drop;
 
+    /// Work that a machine hands out, to be done while others call.
+    type Part: Drop;
+
+    /// What came of such work. It spares the machine that work, and decides nothing.
+    type Help: Drop;
+
     /// The histories that a machine stands for.
     ghost stands: { Self → List (Entry Self.Op Self.Outcome) → Type 0 };
 
@@ -42,15 +48,37 @@ pub trait Machine: Drop {
     /// The status after a legal history.
     ghost status_after: { List (Entry Self.Op Self.Outcome) → ℕ };
 
+    /// What a machine may hand out after a history: a part, or none.
+    ghost part_fits: { Option Self.Part → List (Entry Self.Op Self.Outcome) → Type 0 };
+
     /// Applies an operation, and gives its outcome twice: for the history, and for the caller. The machine then stands for
     /// the history with this entry at its end. After want of memory it is as before.
     fn apply(&mut self, op: &Self::Op) -> Result<(Self::Outcome, Self::Outcome), NoMemory>
-        requires room { (history : List (Entry Self.Op Self.Outcome)) × stands self.old history × (length history < 1048576) }
+        requires room { HasRoom stands self.old }
         requires allowed { allows op.now }
         ensures twice { IfOk result (λ given. given.0 ≡ given.1) }
-        ensures entered { IfOk result (λ given. (history : List (Entry Self.Op Self.Outcome)) → stands self.old history → stands self.new (history ++ entry op.now given.0 ∷ [])) }
+        ensures entered { IfOk result (λ given. Appends stands self.old self.new op.now given.0) }
         ensures origin { origin self.new ≡ origin self.old }
         ensures unchanged { OnErr result (self.new ≡ self.old) };
+
+    /// Applies an operation as `apply` does, with the help of what was worked on before. Where that was for another
+    /// operation, or for another history, the machine does without it.
+    fn apply_with(
+        &mut self,
+        op: &Self::Op,
+        help: &Self::Help,
+    ) -> Result<(Self::Outcome, Self::Outcome), NoMemory>
+        requires room { HasRoom stands self.old }
+        requires allowed { allows op.now }
+        ensures twice { IfOk result (λ given. given.0 ≡ given.1) }
+        ensures entered { IfOk result (λ given. Appends stands self.old self.new op.now given.0) }
+        ensures origin { origin self.new ≡ origin self.old }
+        ensures unchanged { OnErr result (self.new ≡ self.old) };
+
+    /// What may be worked on while others call, for the operation that is due. It changes nothing.
+    fn part(&self) -> Result<Option<Self::Part>, NoMemory>
+        ensures { IfOk result (λ part.
+            (history : List (Entry Self.Op Self.Outcome)) → stands self.now history → part_fits part history) };
 
     /// The status after the machine's history, a number below 2^43.
     fn status(&self) -> u64

@@ -3,7 +3,7 @@ mod adder;
 mod callers;
 
 use crate::{CallFault, Entry, Turn};
-use adder::Adder;
+use adder::{Adder, Sum};
 use callers::{add_all, add_and_close, add_on_threads, add_watched};
 use std::test::Fail;
 use std::time::{Duration, Instant};
@@ -42,6 +42,37 @@ fn two_passes_share_one_history(rt: HostRuntime) -> Result<(), Fail> {
     turn.join(&mut one, two);
     let (adder, history) = turn.close(&rt, one);
     assert!(rt; adder.total == 12 && history.items().len() == 2);
+    Ok(())
+}
+
+// Another calls between the part and the call that it helps, which would wait for ever if the part held the turn.
+#[test]
+fn a_part_is_done_outside_the_turn(rt: HostRuntime) -> Result<(), Fail> {
+    let Ok((turn, mut one)) = Turn::new(rt.alloc(), Adder::new(0)) else {
+        panic!(rt; "a turn")
+    };
+    let mut two = turn.seat(&mut one);
+    let Ok(Some(total)) = turn.part(&rt, &mut one) else {
+        panic!(rt; "a part")
+    };
+    let Ok(first) = turn.call_with(&rt, &mut one, 5, Sum::of(total, 5)) else {
+        panic!(rt; "a call with the sum")
+    };
+    let Ok(Some(total)) = turn.part(&rt, &mut one) else {
+        panic!(rt; "another part")
+    };
+    let Ok(second) = turn.call(&rt, &mut two, 7) else {
+        panic!(rt; "a call between")
+    };
+    let Ok(third) = turn.call_with(&rt, &mut one, 2, Sum::of(total, 2)) else {
+        panic!(rt; "a call with an old sum")
+    };
+    assert!(rt; total == 5 && first.outcome == 5);
+    assert!(rt; second.place == 1 && second.outcome == 12);
+    assert!(rt; third.place == 2 && third.outcome == 14);
+    turn.join(&mut one, two);
+    let (adder, history) = turn.close(&rt, one);
+    assert!(rt; adder.total == 14 && are_running_sums(history.items()));
     Ok(())
 }
 

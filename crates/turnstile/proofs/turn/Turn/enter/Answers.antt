@@ -2,7 +2,7 @@ use Rattle.std.proofs.Common.{sym, ap, ◌∙◌}
 use Rattle.turnstile.specs.Entries.{entry}
 use Rattle.turnstile.specs.Rules.{StandsFrom}
 use Rattle.turnstile.proofs.CallLemmas.{enters, carries_grown}
-use Rattle.turnstile.proofs.turn.Turn.call.Goals as goal
+use Rattle.turnstile.proofs.turn.Turn.enter.Goals as goal
 
 pub apply-requires-clause-held : goal.apply-requires-clause-held
 apply-requires-clause-held g c = let b = c.begin.ensures.begun in let M = g.M.Machine in

@@ -4,7 +4,7 @@ use Rattle.pad_machine.proofs.TwiceLemmas.{rows_again, said_again, second_step}
 use Rattle.pad_machine.specs.Runs.{IsPadStep}
 use Rattle.pad_machine.specs.Stands.{PadState}
 use Rattle.pad_machine.specs.Twice.{LoadedThese, rows_room}
-use Rattle.pad_machine.proofs.pad.Pad.step_twice.Goals as goal
+use Rattle.pad_machine.proofs.pad.Pad.take_twice.Goals as goal
 
 pub say_again-requires-clause-room : goal.say_again-requires-clause-room
 say_again-requires-clause-room g c =
