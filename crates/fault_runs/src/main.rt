@@ -3,10 +3,12 @@
 //!
 //! A line is printed for each table of runs, with its name and how many were compared, and below it each run that ended
 //! otherwise than it must. The status is 0 where there is none, and else 1; 5 where memory was wanting. The folder
-//! `data` has the scripts that are struck in each of their calls of the disk, as they stand in `examples`.
+//! `data` has the scripts that are struck in each of their calls of the disk, as they stand in `examples`. A file `store`
+//! is made where the program runs, and removed.
 #![tactic(auto)]
 
 mod erasures;
+mod file_stores;
 mod loadings;
 mod names;
 mod ordinary;
@@ -17,6 +19,7 @@ mod strikes;
 mod table;
 
 use crate::erasures::erasures;
+use crate::file_stores::file_stores;
 use crate::loadings::{boots, flaky_imports};
 use crate::stores::bad_stores;
 use crate::streams::{fronts, sinks, sources};
@@ -35,7 +38,7 @@ const SCRIPTS: [(&str, u32); 4] = [
     ("sessions.txt", 10),
 ];
 
-// The tables that read no file.
+// The tables that read and write no file.
 fn tables(alloc: Global) -> Result<Vec<Table>, AllocError> {
     let mut tables = Vec::new(alloc);
     tables.push(erasures(alloc)?)?;
@@ -51,6 +54,7 @@ fn tables(alloc: Global) -> Result<Vec<Table>, AllocError> {
 // All tables.
 fn all_tables(rt: &HostRuntime) -> io::Result<Vec<Table>> {
     let mut all = tables(rt.alloc())?;
+    all.push(file_stores(rt)?)?;
     for (file, calls) in SCRIPTS {
         let script = fs::read_to_string(rt, file)?;
         all.push(strikes(rt.alloc(), file, script.as_str(), calls)?)?;

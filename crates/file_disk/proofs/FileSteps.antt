@@ -3,14 +3,15 @@ use Rattle.std.proofs.Common.{ℕ, ◌+◌, ◌≤◌, List, length, Option, ref
 use Rattle.disk_core.specs.declared.disk.DiskError.{DiskError}
 use Rattle.disk_core.specs.declared.disk.TheConstants.{DISK_BYTES}
 use Rattle.disk_core.specs.Disks.{Writes}
-use Rattle.file_disk.specs.FileDisks.{FileState, untold_state}
 use Rattle.disk_core.specs.DiskStates.{TornWithin}
+use Rattle.file_disk.specs.FileDisks.{FileDiskState, as_disk}
 
 -- a list is itself, torn
 abbrev SameTorn : Type 0
 SameTorn = (b : List ℕ) (at n : ℕ) → at + n ≤ length b → TornWithin at n b b
 
-pub write_step : SameTorn → (at : ℕ) (bytes : List ℕ) (f g : FileState) (fault : Option DiskError) → at + length bytes ≤ DISK_BYTES → Writes at bytes (untold_state f) (untold_state g) fault
+pub write_step : {F : Type 0} → SameTorn → (at : ℕ) (bytes : List ℕ) (f g : FileDiskState F) (fault : Option DiskError)
+    → at + length bytes ≤ DISK_BYTES → Writes at bytes (as_disk f) (as_disk g) fault
 write_step same at bytes f g fault fits = record {
   image = λ c long. (c, long, same c at (length bytes) (omega (arith, long, fits)));
   image_off = λ off c long. long;

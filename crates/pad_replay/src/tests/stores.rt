@@ -1,19 +1,10 @@
-//! Stores that are bad, and stores in files.
+//! A store that is bad.
 use crate::top::run_pinpad;
 use disk_core::{ArmDisk, Calls, Counted, DISK_BYTES, MemDisk, MemSink, MemSource};
-use file_disk::FileDisk;
 use pad_words::Octets;
 use std::alloc::Global;
-use std::fs::{OpenOptions, remove_file};
 use std::process::Abort;
 use std::test::Fail;
-
-/// The device is on, and session 1 is open.
-const OPENING: &str = "boot\nopen 1\n";
-
-const OPENING_PRINTED: &str = "> boot / loaded 0 first\n> open 1\n< 1 told open\n";
-
-const IMPORT: &str = "submit 1 0 import PPK clear 0000000000000000 0002 none\n";
 
 // Replays a script over this disk, and compares what is printed.
 fn compare_on<D: ArmDisk>(
@@ -57,44 +48,4 @@ fn bad_stores(rt: HostRuntime) -> Result<(), Fail> {
         script,
         printed,
     )
-}
-
-/// What the store in a file is given before it is opened again: its length, where that is changed, and what is loaded then.
-const LENGTHS: [(Option<u64>, &str); 4] = [
-    (None, "1 first"),
-    (Some(20_000), "1 first"),
-    (Some(2), "0 first"),
-    (Some(0), "0 first"),
-];
-
-// A store in a file keeps its key. A longer file is read at its front, and a shorter one is lengthened with zero bytes.
-#[test]
-fn store_in_a_file(rt: HostRuntime) -> Result<(), Fail> {
-    let alloc = rt.alloc();
-    // One that an earlier run left, if it did.
-    let _left = remove_file(&rt, "store");
-    let mut disk = FileDisk::on_path(&rt, "store")?;
-    let script = format!(in alloc; "{OPENING}{IMPORT}auto\n")?;
-    let printed = format!(in alloc;
-        "{OPENING_PRINTED}> {IMPORT}< 1 request 1\n> begin\n> finish / done\n< 1 ended 1 OK key -\n"
-    )?;
-    compare_on(
-        &rt,
-        alloc,
-        "a new file",
-        &mut disk,
-        script.as_str(),
-        printed.as_str(),
-    )?;
-    for (length, loaded) in LENGTHS {
-        if let Some(length) = length {
-            let mut options = OpenOptions::new();
-            options.write(true).open(&rt, "store")?.set_len(length)?;
-        }
-        let mut again = FileDisk::on_path(&rt, "store")?;
-        let printed = format!(in alloc; "> boot / loaded {loaded}\n")?;
-        compare_on(&rt, alloc, loaded, &mut again, "boot\n", printed.as_str())?;
-    }
-    remove_file(&rt, "store")?;
-    Ok(())
 }
