@@ -11,6 +11,7 @@ use Rattle.flat_machine.specs.declared.types.Device.TheVariants.{Bad, Off, Ready
 use Rattle.pad_desk.specs.Answers.{due_at, due_by}
 use Rattle.pad_desk.specs.Histories.{DeskEntry, HasSeed, acts_of, state_after, status_after}
 use Rattle.pad_desk.specs.Machines.{Stands}
+use Rattle.pad_desk.specs.Statuses.{ended_at}
 use Rattle.pad_machine.specs.Stands.{PadState, StandsFor, set_by, status_with}
 use Rattle.pad_steps.specs.declared.commands.Command.{Command}
 use Rattle.pad_steps.specs.declared.answers.Reply.{Reply}
@@ -100,3 +101,11 @@ due-status state =
     ap due_by (work-sum (device_number shared.device) (one_if (is_some (running_entry shared))) (one_if (has_pin state.held)) (work_number (next_work shared)) (holder_number (holder_of shared.line)) (gone_count shared.requests)
     (device-few shared.device) (one-few (is_some (running_entry shared))) (one-few (has_pin state.held)) (work-few (next_work shared)))
     ∙ due-number (request_in_work shared.requests) (eligible (holder_of shared.line) shared.requests)
+
+-- the number of the requests that ended is in the status
+ended-sum : (device entry pin work holder gone : ℕ) → device ≤ 3 → entry ≤ 1 → pin ≤ 1 → work ≤ 2 → holder ≤ 16 → (device + 4 * entry + 8 * pin + 16 * work + 64 * holder + 2048 * gone) / 2048 ≡ gone
+ended-sum device entry pin work holder gone a b c d e = omega (arith, a, b, c, d, e)
+
+pub ended-status : (state : Flat) → ended_at (status state) ≡ gone_count state.shared.requests
+ended-status state = ended-sum (device_number state.shared.device) (one_if (is_some (running_entry state.shared))) (one_if (has_pin state.held)) (work_number (next_work state.shared)) (holder_number (holder_of state.shared.line)) (gone_count state.shared.requests)
+    (device-few state.shared.device) (one-few (is_some (running_entry state.shared))) (one-few (has_pin state.held)) (work-few (next_work state.shared)) (holder-few (holder_of state.shared.line))

@@ -1,8 +1,10 @@
 pub mod Answers
 pub mod Desks
 pub mod Histories
+pub mod Jobs
 pub mod Machines
 pub mod Outs
 pub mod Pending
 pub mod Replies
 pub mod Stands
+pub mod Statuses

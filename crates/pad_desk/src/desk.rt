@@ -3,7 +3,7 @@ ghost use Rattle.std.specs.Prelude.{◌≡◌, ◌↔◌, ◌<◌, ◌≤◌, �
 ghost use Rattle.disk_core.specs.DiskStates.{DiskState};
 ghost use Rattle.flat_machine.specs.State.{opening};
 ghost use Rattle.pad_desk.specs.Answers.{AnswersWith, DueRefused, Works, collect_out, submit_out};
-ghost use Rattle.pad_desk.specs.Desks.{noted};
+ghost use Rattle.pad_desk.specs.Desks.{HasSeenMore, noted};
 ghost use Rattle.pad_desk.specs.Histories.{Legal, status_after};
 ghost use Rattle.pad_desk.specs.Machines.{HistoryOnDisk, IsFreshDisk, Stands};
 ghost use Rattle.pad_desk.specs.Pending.{IsPendingFor, state_before};
@@ -19,6 +19,7 @@ ghost use Rattle.turnstile.specs.Turns.{Closes, Enters, IsPassOf, Sees, view, ma
 use crate::answers::{Collected, Submitted, Worked, collected_in, step_due, submitted_in};
 use crate::machine::PadAndDisk;
 use crate::outcome::StepOut;
+use crypt_commands::CryptDone;
 use disk_core::PowerDisk;
 use flat_machine::laws::disk_runs::{disk_runs_join, store_history_goes_on};
 use pad_machine::Pad;
@@ -32,7 +33,7 @@ use turnstile::{CallFault, Given, Glance, Pass, Turn};
 /// One pad with its disk, for applications on threads of their own. Each has a pass of its own.
 #[derive(Drop)]
 pub struct Desk<W: PinWork + Drop, D: PowerDisk + Drop> {
-    turn: Turn<PadAndDisk<W, D>>,
+    pub(crate) turn: Turn<PadAndDisk<W, D>>,
 }
 
 /// A caller's pass at a desk.
@@ -136,7 +137,7 @@ impl<W: PinWork + Drop, D: PowerDisk + Drop> Desk<W, D> {
     }
 
     /// Glances once, and takes the step that is due at the status that was shown, if one is. It waits and is refused as
-    /// `call` is, where a step is due.
+    /// `call` is, where a step is due. A command CRYPT is run before its Finish comes to its turn, while others call.
     pub fn work<R: Wait>(&self, rt: &R, pass: &mut DeskPass<W, D>) -> Result<Worked, DeskFault>
         requires { IsPassOf self.now.turn pass.old }
         ensures pass { IsPassOf self.now.turn pass.new }
@@ -148,10 +149,48 @@ impl<W: PinWork + Drop, D: PowerDisk + Drop> Desk<W, D> {
         let glance = self.glance(pass);
         match step_due(glance.status) {
             None => Ok(Worked::Nothing(glance)),
-            Some(step) => match self.call(rt, pass, step) {
+            Some(step) => match self.take_due(rt, pass, step) {
                 Ok(given) => Ok(Worked::Did(given)),
                 Err(fault) => Err(fault),
             },
+        }
+    }
+
+    // Takes a step that was due, as `call` does.
+    fn take_due<R: Wait>(
+        &self,
+        rt: &R,
+        pass: &mut DeskPass<W, D>,
+        step: Step,
+    ) -> Result<Given<StepOut>, DeskFault>
+        requires pass { IsPassOf self.now.turn pass.old }
+        requires formed { IsTrue (is_well_formed step) }
+        ensures pass { IsPassOf self.now.turn pass.new }
+        ensures kept { view pass.new ≡ record (view pass.old) { seen = (view pass.new).seen; mine = (view pass.new).mine } }
+        ensures entered { IfOk result (λ given.
+            Enters (Legal W.rules) (status_after W.rules) (view pass.old) given.place step given.outcome (view pass.new)) }
+        ensures seen { OnErr result (Sees (Legal W.rules) (status_after W.rules) (view pass.old) (view pass.new)) }
+        ensures refused { IfErr result (Refuses step (length (view pass.new).seen)) }
+    {
+        match self.run_job(rt, pass, &step) {
+            Some(done) => self.turn.call_with(rt, pass, step, done),
+            None => self.turn.call(rt, pass, step),
+        }
+    }
+
+    // The command CRYPT in work, run while others call: where the step is Finish, there is such a command, and memory
+    // suffices.
+    fn run_job<R: Wait>(&self, rt: &R, pass: &mut DeskPass<W, D>, step: &Step) -> Option<CryptDone>
+        requires { IsPassOf self.now.turn pass.old }
+        ensures pass { IsPassOf self.now.turn pass.new }
+        ensures seen { HasSeenMore (view pass.old) (view pass.new) }
+    {
+        if !matches!(step, Step::Finish) {
+            return None;
+        }
+        match self.turn.part(rt, pass) {
+            Ok(Some(job)) => job.run().ok(),
+            _ => None,
         }
     }
 

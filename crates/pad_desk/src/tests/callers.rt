@@ -1,9 +1,9 @@
 //! Callers of one desk.
-ghost use Rattle.std.specs.Prelude.{◌≡◌, IfOk};
+ghost use Rattle.std.specs.Prelude.{◌≡◌, ◌≤◌, IfOk};
 ghost use Rattle.turnstile.specs.Turns.{IsPassOf};
 
 use crate::{Collected, Desk, DeskPass, StepOut, Submitted, Worked};
-use disk_core::MemDisk;
+use disk_core::{ArmDisk, MemDisk, Strike};
 use key_source::{Key, Mask};
 use local_check::StandardWork;
 use pad_machine::Pad;
@@ -44,6 +44,21 @@ pub fn fresh_desk(alloc: Global) -> Result<(MemoryDesk, MemoryPass), NoMemory>
 {
     let pad = Pad::new(alloc, StandardWork, [0; 32])?;
     Desk::new(alloc, pad, MemDisk::new())
+}
+
+/// A desk over an empty disk, of which this call is struck, counted from 1.
+pub fn struck_desk(
+    alloc: Global,
+    call: u32,
+    strike: Strike,
+) -> Result<(MemoryDesk, MemoryPass), NoMemory>
+    requires { 1 ≤ call }
+    ensures { IfOk result (λ made. IsPassOf made.0.turn made.1) }
+{
+    let pad = Pad::new(alloc, StandardWork, [0; 32])?;
+    let mut disk = MemDisk::new();
+    disk.arm(call, strike);
+    Desk::new(alloc, pad, disk)
 }
 
 /// Takes a step, if it is well formed.
