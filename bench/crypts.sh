@@ -51,7 +51,7 @@ type MemoryDesk = Desk<StandardWork, MemDisk>;
 type MemoryPass = DeskPass<StandardWork, MemDisk>;
 
 /// How many calls each of the seven lanes makes.
-const CALLS: u32 = 10_000;
+const CALLS: u32 = 1_000;
 
 /// A lane's pass at its end, and the longest time that a call took.
 #[derive(Drop)]

@@ -5,13 +5,15 @@
 # transcript was printed, or with status 0 and the whole. No clause tells when memory is wanting, so this stands outside
 # the gate.
 #
-#     bench/memory.sh [PROGRAM]
+#     bench/memory.sh [PROGRAM [LIVE]]
 #     bench/memory.sh unproved [FIRST [LAST]]
 #
 # The first form runs PROGRAM, or the one that ./replay --proved builds, beside a small library that makes an allocation
-# fail; it needs a C compiler and the GNU C library, and takes a few seconds. The second form needs the kit alone: its
+# fail; it needs a C compiler and the GNU C library, and takes a few seconds. Then it runs LIVE, or the pinpad_live that
+# ./live --proved builds, on a script of two lanes, in the same way: what is printed must be what PROGRAM prints for the
+# steps in it, and with status 0 these must be the steps of both lanes. The second form needs the kit alone: its
 # `rt try` makes an allocation of the unproved code fail, and builds it anew for each, which takes about half a minute.
-# The allocations are those from FIRST (1) to LAST.
+# The allocations are those from FIRST (1) to LAST; lanes are not run.
 #
 # A line is printed for each allocation, with the status and the bytes printed of either script, below it what is wrong,
 # and at the end how many runs were compared and how many were wrong. The status is 1 where one was.
@@ -19,6 +21,7 @@ set -euo pipefail
 cd "$(dirname "$0")/.."
 top=$PWD
 program=${1:-$top/crates/pinpad_cli/out/pinpad_cli}
+live=${2:-$top/crates/pinpad_live/out/pinpad_live}
 first=1
 last=1000000
 if [ "$program" = unproved ]; then
@@ -107,19 +110,25 @@ END
 cat >"$work/failing.c" <<'END'
 #include <errno.h>
 #include <stdlib.h>
+#include <unistd.h>
 
 void *__libc_malloc(size_t size);
 void *__libc_realloc(void *old, size_t size);
 
-static unsigned long left;
+static long left;
 
 __attribute__((constructor)) static void begin(void) {
     const char *number = getenv("FAILING");
-    left = number ? strtoul(number, NULL, 10) : 0;
+    left = number ? strtol(number, NULL, 10) : 0;
+}
+
+__attribute__((destructor)) static void end(void) {
+    if (left > 0)
+        (void)!write(2, "unreached\n", 10);
 }
 
 static int is_failing(void) {
-    if (left == 0 || --left != 0)
+    if (left <= 0 || __sync_sub_and_fetch(&left, 1) != 0)
         return 0;
     errno = ENOMEM;
     return 1;
@@ -194,6 +203,67 @@ while [ "$number" -le "$last" ] && [ "$whole" -lt 3 ]; do
     done
     echo "$line"
     cat "$work/wrong"
+    number=$((number + 1))
+done
+# Lanes on threads: lane 1 enters a PIN, and lane 2 asks for the status at any time.
+cat >"$work/lanes" <<'END'
+@1 boot
+@1 open 1
+@1 submit 1 0 getpin 4 16 hold 000F03FF00000000 0003000000000000
+@1 await entry
+@1 press 1
+@1 press 2
+@1 press 3
+@1 press 4
+@1 press enter
+@1 await 1 reply #1
+@2 open 2
+@2 ask 2 status
+END
+
+# steps FILE: the steps that were printed, as lines of a script; the digits are those of lane 1, in its order.
+steps() {
+    sed -n 's|^> \(.*\)|\1|p' "$1" | sed 's| / .*||' |
+        awk '$0 == "press *" { digit++; print "press " digit; next } { print }'
+}
+
+# is_history FILE: the text is that of its steps.
+is_history() {
+    steps "$1" >"$work/replayed"
+    "$program" replay <"$work/replayed" | cmp -s - "$1"
+}
+
+# are_lanes FILE: the steps are those of both lanes, but for the worker's and what is asked while a request is pending.
+are_lanes() {
+    steps "$1" | grep -v '^begin$\|^finish$' | awk '/^(open|ask) 2( |$)/ { print >"/dev/stderr"; next } { print }' 2>"$work/second" |
+        uniq | cmp -s - <(printf '%s\n' boot 'open 1' \
+            'submit 1 0 getpin 4 16 hold 000F03FF00000000 0003000000000000' \
+            'press 1' 'press 2' 'press 3' 'press 4' 'press enter' 'ask 1 reply 1') &&
+        cmp -s "$work/second" <(printf 'open 2\nask 2 status\n')
+}
+
+number=1
+reached=yes
+if [ "$program" = unproved ] || [ ! -x "$live" ]; then
+    echo "no lanes are run: $live is not there, or the program is unproved"
+    reached=no
+fi
+while [ "$reached" = yes ]; do
+    status=0
+    FAILING=$number LD_PRELOAD=$work/failing.so timeout 60 "$live" live \
+        <"$work/lanes" >"$work/printed/lanes" 2>"$work/said" || status=$?
+    ! grep -q '^unreached$' "$work/said" || reached=no
+    echo "allocation $number: lanes $status $(wc -c <"$work/printed/lanes")"
+    compared=$((compared + 1))
+    case $status in
+        0) is_history "$work/printed/lanes" && are_lanes "$work/printed/lanes" ;;
+        5) is_history "$work/printed/lanes" ;;
+        *) false ;;
+    esac || {
+        wrong=$((wrong + 1))
+        echo "lanes end with status $status and print"
+        cat "$work/printed/lanes" "$work/said"
+    }
     number=$((number + 1))
 done
 echo "compared $compared, wrong $wrong"

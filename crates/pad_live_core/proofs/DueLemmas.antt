@@ -10,7 +10,7 @@ use Rattle.flat_machine.specs.State.{Flat, opening}
 use Rattle.pad_desk.specs.Answers.{due_at}
 use Rattle.pad_desk.specs.Histories.{act_of, acts_of, setting_of, status_after}
 use Rattle.pad_desk.specs.declared.outcome.StepOut.{StepOut}
-use Rattle.pad_live_core.proofs.StatusLemmas.{ended-status}
+use Rattle.pad_live_core.proofs.StatusLemmas.{TellsEnded}
 use Rattle.pad_live_core.specs.Bounds.{is_submit}
 use Rattle.pad_live_core.specs.LaneEvents.{DeskLog, ended_in}
 use Rattle.pad_steps.specs.declared.answers.Reply.{Reply}
@@ -26,12 +26,13 @@ use Rattle.turnstile.specs.Rules.{entries_of, entry_in}
 use Rattle.turnstile.specs.declared.view.MadeEntry.{MadeEntry}
 
 -- the laws of the machine on which the bound stands: a step that is due leaves less to do; no step leaves more than two steps of work for each id
--- that it may draw; no other ids are drawn; and the status tells the step that is due
+-- that it may draw; no other ids are drawn; and the status tells the step that is due, and how many requests ended
 pub record WorkLaws : Type 0 where
   pub less : InEveryRun (λ set state. (step : Step) (word : DiskWord) → next_work state.shared ≡ Some step → work_left (after_step set state step word).shared.requests < work_left state.shared.requests)
   pub more : AtEveryStep (λ set state step word. work_left (after_step set state step word).shared.requests ≤ work_left state.shared.requests + 2 * draws step)
   pub ids : AtEveryStep (λ set state step word. length (after_step set state step word).shared.requests ≤ length state.shared.requests + draws step)
   pub told : (state : Flat) → due_at (status state) ≡ next_work state.shared
+  pub ended : TellsEnded
 
 -- the Submits among the entries
 abbrev pub drawn_in : DeskLog → ℕ
@@ -120,7 +121,7 @@ module _ (pin_rules : PinRules) where
   pub ended_few : WorkLaws → (log : DeskLog) → ended_in pin_rules log ≤ drawn_in log
   ended_few laws log =
       let set : Setting = setting_of pin_rules (entries_of log) in
-      let ended : ended_in pin_rules log ≡ gone_count (flat_after set log).shared.requests = ended-status (flat_after set log) in
+      let ended : ended_in pin_rules log ≡ gone_count (flat_after set log).shared.requests = laws.ended (flat_after set log) in
       let few : gone_count (flat_after set log).shared.requests ≤ rows_after set log = gone_few (flat_after set log).shared.requests in
       let rows : rows_after set log ≤ rows_after set [] + drawn_in log = rows_bound set laws log [] log refl in
       let none : rows_after set [] ≡ 0 = refl in omega (arith, ended, few, rows, none)

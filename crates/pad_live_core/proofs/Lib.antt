@@ -14,3 +14,4 @@ pub mod DueLemmas
 pub mod CountLemmas
 pub mod BoundLemmas
 pub mod SendLemmas
+pub mod EndLemmas

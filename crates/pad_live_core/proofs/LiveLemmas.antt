@@ -115,7 +115,7 @@ module _ (pin_rules : PinRules) where
           record {
             stands = stands;
             follows = one.follows;
-            opens = opens_most lane.lines lane.stop one.events one.follows;
+            polls = (let most = opens_most lane.lines lane.stop one.events one.follows in let told = stands.polls in omega (arith, most, told));
             list = has_lane_list lane.lines lane.stop one.events one.follows;
           },
           more.stand,

@@ -11,7 +11,7 @@ use Rattle.pad_live_core.proofs.EventLemmas.{follows_more, ids_of_append, opens_
 use Rattle.pad_live_core.proofs.PlacedLemmas.{enters_own, placed_on}
 use Rattle.pad_live_core.specs.LaneEvents.{DeskLog, DeskView, Holds, LaneEvent, Moves, PassedTrue, Rising, SamePass, ended_in, made, opened, opens_of, passed, placed_from, placed_of, polled, polls_of}
 use Rattle.pad_live_core.specs.LaneLines.{Breaks, FollowsLine, IsMade, IsPoll, Replied, id_at, id_drawn, id_named, ids_of, reply_asked}
-use Rattle.pad_live_core.specs.Statuses.{ended_at, entry_runs_at}
+use Rattle.pad_desk.specs.Statuses.{ended_at, entry_runs_at}
 use Rattle.pad_live_core.specs.Stops.{AskTold, LaneCut, LaneWhole, LineBroken, LineDone, LinesDone, PassesEntry, Polling, Replying, Rests, SawEntry, SawMore, ShowsEntry, ShowsMore, Stepped, Went}
 use Rattle.pad_steps.specs.declared.steps.Step.TheVariants as steps
 use Rattle.pad_steps.specs.declared.steps.Step.{Step}

@@ -16,7 +16,7 @@ use Rattle.pin_blocks.specs.PinRules.{PinRules}
 use Rattle.script_lang.specs.declared.lane_kinds.LaneStep.{LaneStep}
 use Rattle.turnstile.proofs.ListLemmas.{each_map}
 use Rattle.turnstile.specs.Numbers.{Each, places_from}
-use Rattle.turnstile.specs.Rules.{Settled, StartsWith, first_view, joined, known_self, new_seat}
+use Rattle.turnstile.specs.Rules.{Settled, StartsWith, first_view, joined, known_self, new_seat, with_new_seat}
 use Rattle.turnstile.specs.Turns.{Closes}
 use Rattle.turnstile.specs.declared.view.MadeEntry.{MadeEntry}
 
@@ -78,6 +78,11 @@ stops_so (Some early) stop lanes v w l e le = record {
   full = λ is. let f : 1048576 ≤ length v.seen = l.full (sym e ∙ is) in omega (arith, f, le);
   met = each_map (λ (lane : Lane). lane.stop ≡ Some why.Full → Some early ≡ Some why.Full) (λ (lane : Lane). lane.stop ≡ Some why.Full → stop ≡ Some why.Full) lanes (λ lane m is. e ∙ m is) l.met;
 }
+
+-- the first pass, after it seated the worker's and those of n lanes
+pub seated_lanes : (origin : List ℕ) (n : ℕ) (opened first later : DeskView) → opened ≡ first_view origin → first ≡ with_new_seat opened → later ≡ record (first_view first.origin) { seated = 1 + n } → later ≡ record (first_view origin) { seated = 1 + n }
+seated_lanes origin n opened first later opened_is is later_is =
+    later_is ∙ ap (λ (seed : List ℕ). record (first_view seed) { seated = 1 + n }) (ap (λ (y : DeskView). y.origin) is ∙ ap (λ (y : DeskView). y.origin) opened_is)
 
 module _ (pin_rules : PinRules) where
   -- a pass that was seated before any call has made nothing

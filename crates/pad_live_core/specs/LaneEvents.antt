@@ -1,7 +1,7 @@
 -- What a lane did, event by event, and how the history has it.
 use Rattle.pad_desk.specs.Histories.{DeskEntry, status_after}
 use Rattle.pad_desk.specs.declared.outcome.StepOut.{StepOut}
-use Rattle.pad_live_core.specs.Statuses.{ended_at, entry_runs_at}
+use Rattle.pad_desk.specs.Statuses.{ended_at, entry_runs_at}
 use Rattle.pad_steps.specs.declared.steps.Step.{Step}
 use Rattle.pin_blocks.specs.PinRules.{PinRules}
 use Rattle.std.specs.Prelude.{IsTrue, List, [], bytes_eq, if◌then◌else◌, length, take, ℕ, ◌+◌, ◌++◌, ◌∷◌, ◌≡◌, ◌≤◌}

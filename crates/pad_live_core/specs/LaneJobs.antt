@@ -1,5 +1,7 @@
 -- Passes that were seated, lanes that began with them, and lanes that ended.
 use Rattle.atomic_table.specs.declared.shared.Seat.{Seat}
+use Rattle.crypt_commands.specs.declared.jobs.CryptDone.{CryptDone}
+use Rattle.crypt_commands.specs.declared.jobs.CryptJob.{CryptJob}
 use Rattle.disk_core.specs.declared.disk.Disk.{Ghosts as DiskGhosts}
 use Rattle.pad_desk.specs.declared.machine.PadAndDisk.{PadAndDisk}
 use Rattle.pad_desk.specs.declared.outcome.StepOut.{StepOut}
@@ -22,7 +24,7 @@ use Rattle.turnstile.specs.declared.turn.Turn.{Turn}
 
 -- a turn of a desk
 abbrev pub DeskTurn : Type 0 → Type 0
-DeskTurn X = Turn X Step StepOut
+DeskTurn X = Turn X Step StepOut CryptJob CryptDone
 
 -- a pass of a desk
 abbrev pub DeskSeat : Type 0 → Type 0

@@ -1,9 +1,9 @@
-pub mod Statuses
 pub mod Shuffles
 pub mod LaneEvents
 pub mod LaneLines
 pub mod Workers
 pub mod LiveHistories
+pub mod LiveRuns
 pub mod Bounds
 pub mod Stops
 pub mod LaneJobs

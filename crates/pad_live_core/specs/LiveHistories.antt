@@ -90,9 +90,9 @@ module _ (pin_rules : PinRules) where
   pub record LaneRuns (number : List ℕ) (log : DeskLog) (lane : Lane) (events : List LaneEvent) : Type 0 where
     pub stands : LaneStands number log events
     pub follows : FollowsTo lane.lines lane.stop events
-    -- it began to await no more replies than its lines say
-    pub opens : opens_of events ≤ awaits lane.lines
-    -- and its steps, in the plain form
+    -- its polls are at most as many as its awaits of a reply and the requests that ended, taken together
+    pub polls : length (polls_of events) ≤ awaits lane.lines + ended_in pin_rules log
+    -- its steps are those of its lines, in the plain form
     pub list : HasLaneList lane.lines lane.stop (steps_of events)
 
   -- so it is of each lane, whose numbers count up

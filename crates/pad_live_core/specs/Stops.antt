@@ -4,7 +4,7 @@ use Rattle.pad_desk.specs.Histories.{Legal, status_after}
 use Rattle.pad_desk.specs.declared.outcome.StepOut.{StepOut}
 use Rattle.pad_live_core.specs.LaneEvents.{DeskView, LaneEvent, Moves, opened, passed}
 use Rattle.pad_live_core.specs.LaneLines.{Breaks, Follows, FollowsLine, IsPoll, Replied, id_drawn, ids_of, is_pending, reply_asked}
-use Rattle.pad_live_core.specs.Statuses.{ended_at, entry_runs_at}
+use Rattle.pad_desk.specs.Statuses.{ended_at, entry_runs_at}
 use Rattle.pad_live_core.specs.Workers.{IsIdle}
 use Rattle.pad_live_core.specs.declared.stop.Stop.{Stop}
 use Rattle.pad_live_core.specs.declared.stop.Stop.TheVariants as why

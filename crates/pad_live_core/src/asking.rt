@@ -3,7 +3,7 @@ ghost use Rattle.std.specs.Prelude.{◌≡◌, [], IfErr, IfOk, IsTrue, OnErr};
 ghost use Rattle.std.specs.Bool.{OnFalse, OnTrue};
 ghost use Rattle.pad_desk.specs.Histories.{Legal, status_after};
 ghost use Rattle.pad_live_core.specs.LaneEvents.{Moves};
-ghost use Rattle.pad_live_core.specs.Statuses.{ended_at, entry_runs_at};
+ghost use Rattle.pad_desk.specs.Statuses.{ended_at, entry_runs_at};
 ghost use Rattle.pad_live_core.specs.Stops.{FullAt, ShowsEntry, ShowsMore, Went};
 ghost use Rattle.pad_steps.specs.Formed.{is_well_formed};
 ghost use Rattle.turnstile.specs.Turns.{Enters, IsPassOf, Sees, view};

@@ -9,7 +9,7 @@ ghost use Rattle.pin_blocks.specs.PinRules.{PinRules};
 ghost use Rattle.script_lang.specs.declared.lane_kinds.LaneStep.{LaneStep};
 
 use flat_machine::laws::requests::due_work_runs_out;
-use pad_desk::laws::status_tells_the_step_due;
+use pad_desk::laws::{status_tells_the_requests_ended, status_tells_the_step_due};
 
 /// The history of a live run has no more entries than its lines allow.
 pub fn live_histories_are_bounded()
@@ -18,4 +18,5 @@ pub fn live_histories_are_bounded()
 {
     due_work_runs_out();
     status_tells_the_step_due();
+    status_tells_the_requests_ended();
 }

@@ -2,7 +2,8 @@
 
 /// What a lane passes before each of its lines. It may block.
 pub trait Gate {
-    /// The lane with this number has come to its line at this place, counted from 0; after its last line, to their number.
+    /// The lane with this number has come to its line at this place, counted from 1; after its last line, to the place that
+    /// follows.
     fn pass(&self, lane: u8, place: u32);
 }
 

@@ -7,7 +7,6 @@ ghost use Rattle.turnstile.specs.Turns.{IsPassOf, view};
 
 use crate::asking::make;
 use crate::awaiting::{await_entry, await_reply, is_told};
-use crate::copies::copy_step;
 use crate::gate::Gate;
 use crate::stop::Stop;
 use disk_core::PowerDisk;
@@ -85,7 +84,7 @@ fn do_step<R: Wait, W: PinWork + Drop, D: PowerDisk + Drop>(
     ensures rests { OnErr result (Rests W.rules (view pass.old) (view pass.new)) }
     ensures full { IfErr result (λ stop. FullAt stop (view pass.new)) }
 {
-    let Ok(copy) = copy_step(*ids.allocator(), step) else {
+    let Ok(copy) = step.copy(*ids.allocator()) else {
         return Err(Stop::NoMemory);
     };
     if ids.reserve(1).is_err() {
@@ -163,7 +162,7 @@ pub fn run_lane<R: Wait, G: Gate, W: PinWork + Drop, D: PowerDisk + Drop>(
 {
     let mut ids = Vec::new(alloc);
     let mut last = 0;
-    let mut place = 0u32;
+    let mut place = 1u32;
     for line in lines {
         gate.pass(lane, place);
         if is_told(told) {

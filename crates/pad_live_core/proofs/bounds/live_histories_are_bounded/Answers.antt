@@ -7,4 +7,5 @@ returns c = bounded (record {
   more = c.due_work_runs_out.ensures.more;
   ids = c.due_work_runs_out.ensures.ids;
   told = c.status_tells_the_step_due.ensures;
+  ended = c.status_tells_the_requests_ended.ensures;
 })
