@@ -28,16 +28,16 @@ fn write_row(row: &KeyRow, cell: &mut [u8; RECORD_BYTES])
     let value = row.value.bytes();
     put_field(cell, 0, &[1, name.len() as u8], 2);
     put_field(cell, 2, name, 32);
-    put_field(cell, 34, &bytes_of_uses(&row.uses), 2);
+    put_field(cell, 34, &bytes_of_uses(row.uses), 2);
     put_field(cell, 36, &[value.len() as u8], 1);
     put_field(cell, 37, value, 24);
     put_field(cell, 61, &[], 35);
 }
 
 // The higher byte first.
-fn bytes_of_uses(uses: &Uses) -> [u8; 2]
-    ensures bytes { result ≡ big_bytes 2 uses.now }
-    ensures valid { IsTrue (uses_valid uses.now) }
+fn bytes_of_uses(uses: Uses) -> [u8; 2]
+    ensures bytes { result ≡ big_bytes 2 uses }
+    ensures valid { IsTrue (uses_valid uses) }
 {
     let mut bytes = [0; 2];
     BigEndian::write_u16(&mut bytes, uses.bits());

@@ -1,12 +1,13 @@
 -- A table stays one as slots are emptied and rows are put.
 use Rattle.key_attributes.specs.declared.KeyRow.{KeyRow}
+use Rattle.key_attributes.specs.SlotRows.{SlotsRise}
 use Rattle.key_table.specs.KeyRows.{KeyRows, with_row}
 use Rattle.key_table.specs.Tables.{above_slot, is_free, is_table}
 use Rattle.std.proofs.Common.{arith, subst, sym}
 use Rattle.std.proofs.lemmas.Bool.{and_from, and_parts, both_ways, eqb-false, eqb-true, false_from_ne_true, lt-ltb, ltb-false, ltb-true, not-true, not_from_false, or_parts}
 use Rattle.std.proofs.lemmas.Slice.Eq.{bytes_eq-Decides}
 use Rattle.std.specs.List.{list_any}
-use Rattle.std.specs.Prelude.{Bool, List, [], bytes_eq, cond, false, filter, if◌then◌else◌, nat_lt, refl, true, ℕ, ◌&&◌, ◌<◌, ◌==◌, ◌∷◌, ◌≡◌, ◌≤◌}
+use Rattle.std.specs.Prelude.{Bool, IsTrue, List, [], bytes_eq, cond, false, filter, if◌then◌else◌, nat_lt, refl, suc, true, zero, ℕ, ◌&&◌, ◌+◌, ◌<◌, ◌==◌, ◌∷◌, ◌≡◌, ◌≤◌}
 
 abbrev pub SlotRow : Type 0
 SlotRow = ℕ × KeyRow
@@ -155,3 +156,21 @@ table_put_if slot false false row r rows e f l fit h only others put =
 pub table-with_row : (slot : ℕ) (row : KeyRow) (rows : KeyRows) → slot < 64 → OnlyAt slot row.name rows → Table rows → Table (with_row slot row rows)
 table-with_row slot row [] l only h = (record { below = l; above = tt; free = tt }, tt)
 table-with_row slot row (r ∷ rows) l only h = table_put_if slot (nat_lt slot r.0) (slot == r.0) row r rows refl refl l h.0 h.1 only.0 only.1 (table-with_row slot row rows l only.1 h.1)
+
+-- the slots of a table rise
+rising_slots : (rows : KeyRows) → Table rows → SlotsRise rows
+rising_slots [] h k below = absurd (none k below)
+  where
+    none : (k : ℕ) → k + 1 < 0 → ⊥
+    none k below = omega (arith, below)
+rising_slots (row ∷ []) h k below = absurd (none k below)
+  where
+    none : (k : ℕ) → k + 1 < 1 → ⊥
+    none k below = omega (arith, below)
+rising_slots (row ∷ next_row ∷ rows) h zero below = h.0.above.0
+rising_slots (row ∷ next_row ∷ rows) h (suc k) below =
+    let e : suc k + 1 ≡ suc (k + 1) = omega arith in
+    rw e (rising_slots (next_row ∷ rows) h.1 k (omega (arith, below)))
+
+pub table-rising : (rows : KeyRows) → IsTrue (is_table rows) → SlotsRise rows
+table-rising rows is = rising_slots rows (table_from rows is)

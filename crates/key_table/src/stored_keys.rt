@@ -1,6 +1,7 @@
 //! The key table over a store.
 ghost use Rattle.std.specs.Prelude.{◌≡◌, ◌∷◌, [], Err, IfErr, IfNone, IfOk, IfSome, IsSome, IsTrue, None, Ok, OnErr, OnOk, OnSome, Some, drop, false, is_none, is_some, length, slice_get, true, ◌<◌, ◌≤◌};
 ghost use Rattle.std.specs.Option.{option_copied, option_map};
+ghost use Rattle.key_attributes.specs.SlotRows.{SlotsRise};
 ghost use Rattle.disk_core.specs.DiskStates.{EachImage, Shrinks};
 ghost use Rattle.disk_core.specs.Disks.{DeviceCalls, KeepsContent, fault_in};
 ghost use Rattle.key_table.specs.Changes.{change_to, erasure, erasures};
@@ -79,6 +80,7 @@ impl StoredKeys {
     /// The slots and rows in order: slots rise and are below 64, and no name stands twice.
     pub fn rows(&self) -> &[(u8, KeyRow)]
         ensures rows { result.now ≡ self.now.rows }
+        ensures rising { SlotsRise result.now }
         ensures table { IsTrue (is_table self.now.rows) }
         ensures few { length self.now.rows ≤ 64 }
     {

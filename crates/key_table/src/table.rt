@@ -2,6 +2,7 @@
 ghost use Rattle.std.specs.Prelude.{◌≡◌, ◌&&◌, ◌==◌, [], Err, IfErr, IfOk, IfSome, IsTrue, None, Ok, OnErr, OnOk, Some, is_err, is_none, length, take, vec_capacity, ◌<◌, ◌≤◌};
 ghost use Rattle.std.specs.List.{insert, remove};
 ghost use Rattle.std.specs.Option.{option_copied};
+ghost use Rattle.key_attributes.specs.SlotRows.{SlotsRise};
 ghost use Rattle.key_table.specs.Duplicates.{duplicate};
 ghost use Rattle.key_table.specs.KeyRows.{find_key, find_row, put_row, row_in, slot_for, slot_of, with_row};
 ghost use Rattle.key_table.specs.Permits.{permit};
@@ -63,6 +64,7 @@ impl KeyTable {
     /// The slots and rows in order: slots rise and are below 64, and no name stands twice.
     pub fn rows(&self) -> &[(u8, KeyRow)]
         ensures rows { result.now ≡ self.now }
+        ensures rising { SlotsRise result.now }
         ensures table { IsTrue (is_table self.now) }
         ensures few { length self.now ≤ 64 }
     {

@@ -3,15 +3,14 @@ use Rattle.des_core.specs.TripleDes.{tdea_bytes}
 use Rattle.local_check.specs.StandardWork.{standard_rules}
 use Rattle.pad_steps.specs.declared.commands.Form.{Form}
 use Rattle.pad_steps.specs.declared.commands.Form.TheVariants as forms
-use Rattle.pad_steps.specs.declared.commands.PinRequest.{PinRequest}
 use Rattle.pad_steps.specs.declared.commands.PinRequest.TheVariants as pin
 use Rattle.pin_blocks.specs.BlockWork.{fill_count}
 use Rattle.pin_blocks.specs.Blocks.{longest}
 use Rattle.pin_blocks.specs.PinRules.{DrawsFewWords}
 use Rattle.pin_blocks.specs.declared.work.PinFault.{PinFault}
 use Rattle.pin_blocks.specs.declared.work.PinFault.TheVariants as fault
-use Rattle.std.proofs.Common.{arith, refl}
-use Rattle.std.specs.Prelude.{Bool, Err, Ok, Result, false, if◌then◌else◌, nat_lt, true, ℕ, ◌-◌, ◌||◌, ◌≡◌, ◌≤◌}
+use Rattle.std.proofs.Common.{arith}
+use Rattle.std.specs.Prelude.{Bool, Err, Ok, Result, false, if◌then◌else◌, nat_lt, true, ℕ, ◌||◌, ◌≡◌, ◌≤◌}
 
 few_filled : (form : Form) (size : ℕ) → fill_count form size ≤ 255
 few_filled forms.Iso0 size = omega arith

@@ -33,7 +33,7 @@ use Rattle.pad_machine.specs.Memory.{pending_in_all}
 use Rattle.pad_machine.specs.Prepares.{IsPlanned, IsPrepared, calls_of, deciding, effect_of, places_of, pressed, said_of, with_key}
 use Rattle.pad_machine.specs.Runs.{IsKeptStep, IsPadStep, PadStepOnDisk}
 use Rattle.pad_machine.specs.Stands.{Common, PadState, Whole, kept_by, pad_state, running_of, set_by, set_of, shared_of}
-use Rattle.pad_machine.specs.Twice.{AreAsKnown, LoadedThese, answer_holds_list, answer_out, holds_list, known_out, reply_holds_list, rows_room}
+use Rattle.pad_machine.specs.Twice.{AreAsKnown, HasRoomForWord, answer_holds_list, answer_out, holds_list, known_out, reply_holds_list, rows_room}
 use Rattle.pad_machine.specs.declared.endings.Ending.TheVariants as ending
 use Rattle.pad_machine.specs.declared.keyless.KeylessStep.{KeylessStep}
 use Rattle.pad_machine.specs.declared.pad.Stepped.{Stepped}
@@ -71,7 +71,7 @@ use Rattle.std.proofs.lemmas.Grind.{common_steps}
 use Rattle.std.proofs.lemmas.List.Elements.{All-append, All-cons, All-map, All-nil}
 use Rattle.std.proofs.lemmas.List.{length-append, length-map}
 use Rattle.std.specs.List.{range_with_len}
-use Rattle.std.specs.Prelude.{Bool, IsTrue, List, None, Option, Some, [], drop, false, if◌then◌else◌, length, map, max, take, true, ℕ, ◌++◌, ◌+◌, ◌-◌, ◌∷◌, ◌≡◌, ◌≤◌}
+use Rattle.std.specs.Prelude.{Bool, IsTrue, List, None, Option, Some, [], drop, false, if◌then◌else◌, length, map, max, take, true, vec_capacity, ℕ, ◌++◌, ◌+◌, ◌-◌, ◌∷◌, ◌≡◌, ◌≤◌}
 
 -- the outs fit so many places, and are the one that was known, or hold no list
 pub record IsToldAgain (places : ℕ) (only : Option Out) (said : List Out) : Type 0 where
@@ -297,7 +297,7 @@ told_again pin_rules (Some key) whole (prepared.Reset owner kept) word = keyless
 told_again pin_rules (Some key) whole prepared.Off word = keyless_told (set_by pin_rules whole.seed) whole.common whole.held prepared.Off word
 told_again pin_rules (Some key) whole (prepared.Boot kept) word = keyless_told (set_by pin_rules whole.seed) whole.common whole.held (prepared.Boot kept) word
 
--- a word that fits what was prepared loads rows where there is room for them
+-- a word that fits what was prepared loads rows for which there is room
 module _ (pin_rules : PinRules) (whole : Whole) (rows : KeyRows) (few : length rows ≤ 64) where
   unloaded : (wanted : Work) (loaded : KeyRows) → is_load wanted ≡ false → IsTrue (fits_plan (plan_of (shared_of whole.common) wanted) (words.Loaded loaded)) → ⊥
   unloaded work.Waits loaded other fits = cc
@@ -310,42 +310,42 @@ module _ (pin_rules : PinRules) (whole : Whole) (rows : KeyRows) (few : length r
   unloaded (work.Release wanted first second draws) loaded other fits = cc
   unloaded work.Load loaded other fits = cc
 
-  rows_loaded : (key : Option Key) (step : Prepared) (loaded : KeyRows)
+  room_for_rows : (key : Option Key) (step : Prepared) (loaded : KeyRows)
       → ((count : ℕ) (command : Command) → is_reset command ≡ false → is_load (work_of (deciding pin_rules) (shared_of whole.common) count command) ≡ false)
       → IsPrepared pin_rules whole.common (length whole.held) step → IsTrue (fits_plan (calls_of (shared_of whole.common) step) (words.Loaded loaded))
-      → rows ≡ (effect_of pin_rules key whole step (words.Loaded loaded)).state.shared.keys → LoadedThese rows (rows_room step) (words.Loaded loaded)
-  rows_loaded key prepared.Nothing loaded loads fits planned same = cc
-  rows_loaded key (prepared.Say only) loaded loads fits planned same = cc
-  rows_loaded key (prepared.Open session) loaded loads fits planned same = cc
-  rows_loaded key (prepared.Close session) loaded loads fits planned same = cc
-  rows_loaded key (prepared.Lock session) loaded loads fits planned same = cc
-  rows_loaded key (prepared.Unlock session) loaded loads fits planned same = cc
-  rows_loaded key (prepared.Submit session limit command) loaded loads fits planned same = cc
-  rows_loaded key (prepared.Listen session classes) loaded loads fits planned same = cc
-  rows_loaded key (prepared.Cancel session floor id count) loaded loads fits planned same = cc
-  rows_loaded key (prepared.Tick clock) loaded loads fits planned same = cc
-  rows_loaded key (prepared.Begin id) loaded loads fits planned same = cc
-  rows_loaded key (prepared.RefuseEntry owner refusal) loaded loads fits planned same = cc
-  rows_loaded key (prepared.StartEntry owner kind) loaded loads fits planned same = cc
-  rows_loaded key (prepared.Press current) loaded loads fits planned same = cc
-  rows_loaded key prepared.Off loaded loads fits planned same = cc
-  rows_loaded key (prepared.Finish owner wanted told) loaded loads fits planned same =
+      → rows ≡ (effect_of pin_rules key whole step (words.Loaded loaded)).state.shared.keys → HasRoomForWord (words.Loaded loaded) (rows_room step)
+  room_for_rows key prepared.Nothing loaded loads fits planned same = cc
+  room_for_rows key (prepared.Say only) loaded loads fits planned same = cc
+  room_for_rows key (prepared.Open session) loaded loads fits planned same = cc
+  room_for_rows key (prepared.Close session) loaded loads fits planned same = cc
+  room_for_rows key (prepared.Lock session) loaded loads fits planned same = cc
+  room_for_rows key (prepared.Unlock session) loaded loads fits planned same = cc
+  room_for_rows key (prepared.Submit session limit command) loaded loads fits planned same = cc
+  room_for_rows key (prepared.Listen session classes) loaded loads fits planned same = cc
+  room_for_rows key (prepared.Cancel session floor id count) loaded loads fits planned same = cc
+  room_for_rows key (prepared.Tick clock) loaded loads fits planned same = cc
+  room_for_rows key (prepared.Begin id) loaded loads fits planned same = cc
+  room_for_rows key (prepared.RefuseEntry owner refusal) loaded loads fits planned same = cc
+  room_for_rows key (prepared.StartEntry owner kind) loaded loads fits planned same = cc
+  room_for_rows key (prepared.Press current) loaded loads fits planned same = cc
+  room_for_rows key prepared.Off loaded loads fits planned same = cc
+  room_for_rows key (prepared.Finish owner wanted told) loaded loads fits planned same =
       absurd (unloaded wanted loaded (ap (λ (w : Work). is_load w) fits.is ∙ loads (length whole.held) fits.command fits.reset) planned)
-  rows_loaded None (prepared.Reset owner kept) loaded loads fits planned same = (sym same, omega (arith, few, fits.copy.room))
-  rows_loaded (Some key) (prepared.Reset owner kept) loaded loads fits planned same = (sym same, omega (arith, few, fits.copy.room))
-  rows_loaded None (prepared.Boot kept) loaded loads fits planned same = (sym same, omega (arith, few, fits.1.room))
-  rows_loaded (Some key) (prepared.Boot kept) loaded loads fits planned same = (sym same, omega (arith, few, fits.1.room))
+  room_for_rows None (prepared.Reset owner kept) loaded loads fits planned same = subst (λ (keys : KeyRows). length keys ≤ vec_capacity kept) same (omega (arith, few, fits.copy.room))
+  room_for_rows (Some key) (prepared.Reset owner kept) loaded loads fits planned same = subst (λ (keys : KeyRows). length keys ≤ vec_capacity kept) same (omega (arith, few, fits.copy.room))
+  room_for_rows None (prepared.Boot kept) loaded loads fits planned same = subst (λ (keys : KeyRows). length keys ≤ vec_capacity kept) same (omega (arith, few, fits.1.room))
+  room_for_rows (Some key) (prepared.Boot kept) loaded loads fits planned same = subst (λ (keys : KeyRows). length keys ≤ vec_capacity kept) same (omega (arith, few, fits.1.room))
 
-  pub loaded_these : (key : Option Key) (step : Prepared) (word : DiskWord)
+  pub room_for_word : (key : Option Key) (step : Prepared) (word : DiskWord)
       → ((count : ℕ) (command : Command) → is_reset command ≡ false → is_load (work_of (deciding pin_rules) (shared_of whole.common) count command) ≡ false)
       → IsPrepared pin_rules whole.common (length whole.held) step → IsTrue (fits_plan (calls_of (shared_of whole.common) step) word)
-      → rows ≡ (effect_of pin_rules key whole step word).state.shared.keys → LoadedThese rows (rows_room step) word
-  loaded_these key step words.Quiet loads fits planned same = tt
-  loaded_these key step words.Done loads fits planned same = tt
-  loaded_these key step (words.Failed count) loads fits planned same = tt
-  loaded_these key step (words.Cut count) loads fits planned same = tt
-  loaded_these key step (words.Loaded loaded) loads fits planned same = rows_loaded key step loaded loads fits planned same
-  loaded_these key step (words.Bad slot) loads fits planned same = tt
+      → rows ≡ (effect_of pin_rules key whole step word).state.shared.keys → HasRoomForWord word (rows_room step)
+  room_for_word key step words.Quiet loads fits planned same = tt
+  room_for_word key step words.Done loads fits planned same = tt
+  room_for_word key step (words.Failed count) loads fits planned same = tt
+  room_for_word key step (words.Cut count) loads fits planned same = tt
+  room_for_word key step (words.Loaded loaded) loads fits planned same = room_for_rows key step loaded loads fits planned same
+  room_for_word key step (words.Bad slot) loads fits planned same = tt
 
 -- the items behind the old ones
 new_items : (before after said : List Out) → after ≡ before ++ said → take (length after - length before) (drop (length before) after) ≡ said
@@ -362,16 +362,16 @@ module _ (pin_rules : PinRules) (mid : Whole) (step : Prepared) (taken : Step) (
       ∙ sym (new_items before after (kept_next (set_of pin_rules (kept_by mid)) (kept_by mid) taken word).outs kept.outs))
       (told_again pin_rules (pressed taken) mid step word)
 
-  -- the rows that it loaded are the kept ones, for which there is room
+  -- there is room for the rows that it loaded, which are the kept ones
   pub rows_again : ((k : Key) (w : DiskWord) → effect_of pin_rules (pressed (with_key keyless k)) mid step w ≡ kept_next (set_by pin_rules mid.seed) (kept_by mid) (with_key keyless k) w)
       → ((k : Key) → IsPlanned (deciding pin_rules) (shared_of mid.common) step (with_key keyless k))
       → ((set : Setting) (shared : Shared) (count : ℕ) (command : Command) → is_reset command ≡ false → is_load (work_of set shared count command) ≡ false)
       → IsPrepared pin_rules mid.common (length mid.held) step
       → (new : PadState) (before after : List Out) (word : DiskWord) (s t : DiskState) → IsKeptStep pin_rules (pad_state mid) new before after taken word → PadStepOnDisk pin_rules (pad_state mid) new taken word s t
-      → length new.kept.shared.keys ≤ 64 → LoadedThese new.kept.shared.keys (rows_room step) word
+      → length new.kept.shared.keys ≤ 64 → HasRoomForWord word (rows_room step)
   rows_again does planned loads fits new before after word s t kept on few =
       let calls = sym (same_plan pin_rules mid.seed (shared_of mid.common) taken) ∙ (step-planned pin_rules mid step taken keyless is planned).calls in
-      loaded_these pin_rules mid new.kept.shared.keys few (pressed taken) step word (loads (deciding pin_rules) (shared_of mid.common)) fits
+      room_for_word pin_rules mid new.kept.shared.keys few (pressed taken) step word (loads (deciding pin_rules) (shared_of mid.common)) fits
       (subst (λ (calls : Plan). IsTrue (fits_plan calls word)) calls on.fits)
       (ap (λ (k : Kept). k.shared.keys) kept.state ∙ ap (λ (effect : KeptAfter). effect.state.shared.keys) (sym (effect-is pin_rules (kept_by mid) mid step taken (pressed taken) word keyless is does refl refl)))
 

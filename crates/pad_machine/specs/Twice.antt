@@ -69,10 +69,10 @@ abbrev pub HasRoomFor : KeyRows → Option (Vec (ℕ × KeyRow)) → Type 0
 HasRoomFor rows None = ⊥
 HasRoomFor rows (Some room) = length rows ≤ vec_capacity room
 
--- a word that loaded rows loaded these, and there is room for them
-abbrev pub LoadedThese : KeyRows → Option (Vec (ℕ × KeyRow)) → DiskWord → Type 0
-LoadedThese rows room (words.Loaded loaded) = (loaded ≡ rows) × HasRoomFor rows room
-LoadedThese rows room other = Unit {0}
+-- there is room for the rows that the word loaded, if it did
+abbrev pub HasRoomForWord : DiskWord → Option (Vec (ℕ × KeyRow)) → Type 0
+HasRoomForWord (words.Loaded loaded) room = HasRoomFor loaded room
+HasRoomForWord other room = Unit {0}
 
 -- both lists have what they had, and behind it the same
 abbrev pub SayAlike : List Out → List Out → List Out → List Out → Type 0

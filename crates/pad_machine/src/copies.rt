@@ -1,6 +1,6 @@
 // Copies of what a step comes to, without memory.
 ghost use Rattle.std.specs.Prelude.{◌≡◌, ◌≤◌, ◌++◌, false, length};
-ghost use Rattle.pad_machine.specs.Twice.{AreAsKnown, LoadedThese, answer_holds_list, holds_list, reply_holds_list, told_holds_list};
+ghost use Rattle.pad_machine.specs.Twice.{AreAsKnown, HasRoomForWord, answer_holds_list, holds_list, reply_holds_list, told_holds_list};
 ghost use Rattle.std.specs.List.{All};
 
 use crate::saying::say;
@@ -70,7 +70,7 @@ fn copy_view(view: &KeyView) -> KeyView
 {
     KeyView {
         name: view.name.copy(),
-        uses: view.uses.copy(),
+        uses: view.uses,
         length: view.length,
         check: view.check,
     }
@@ -104,13 +104,9 @@ fn copy_answer(answer: &Answer) -> Answer
     }
 }
 
-/// The word once more. Rows that were loaded are those of the table, and are copied into `room`.
-pub fn copy_word(
-    word: &DiskWord,
-    rows: &[(u8, KeyRow)],
-    room: Option<Vec<(u8, KeyRow)>>,
-) -> DiskWord
-    requires { LoadedThese rows.now room word.now }
+/// The word once more. Rows that were loaded are copied into `room`.
+pub fn copy_word(word: &DiskWord, room: Option<Vec<(u8, KeyRow)>>) -> DiskWord
+    requires { HasRoomForWord word.now room }
     ensures { result ≡ word.now }
 {
     match word {
@@ -118,9 +114,9 @@ pub fn copy_word(
         DiskWord::Done => DiskWord::Done,
         DiskWord::Failed(count) => DiskWord::Failed(*count),
         DiskWord::Cut(count) => DiskWord::Cut(*count),
-        DiskWord::Loaded(_) => match room {
+        DiskWord::Loaded(rows) => match room {
             Some(mut copy) => {
-                copy_rows(rows, &mut copy);
+                copy_rows(rows.items(), &mut copy);
                 DiskWord::Loaded(Rows::of(copy))
             }
             None => unreachable!(),

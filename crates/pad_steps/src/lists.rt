@@ -1,5 +1,6 @@
 //! Lists of rows, of names, of what is said, and of the disk's words.
-ghost use Rattle.std.specs.Prelude.{◌≡◌, ◌≤◌, ◌<◌, ◌+◌, ◌++◌, ◌∷◌, [], All, OnOk, OnErr, IfOk, IsOk};
+ghost use Rattle.std.specs.Prelude.{◌≡◌, ◌≤◌, ◌<◌, ◌+◌, ◌++◌, ◌∷◌, [], OnOk, OnErr, IfOk, IsOk};
+ghost use Rattle.key_attributes.specs.SlotRows.{SlotsRise};
 
 use crate::answers::Out;
 use crate::steps::DiskWord;
@@ -8,7 +9,7 @@ use pad_words::{KeyName, NoMemory};
 use std::alloc::Global;
 use std::marker::Model;
 
-/// Key rows with their slots, rising.
+/// Key rows behind their slots, each slot above those before it.
 #[derive(Drop)]
 pub struct Rows {
     list: Vec<(u8, KeyRow)>,
@@ -17,10 +18,13 @@ pub struct Rows {
 impl Model for Rows {
     ghost use Rattle.std.specs.Prelude.{ℕ, List};
     ghost use Rattle.key_attributes.specs.declared.KeyRow.{KeyRow};
+    ghost use Rattle.key_attributes.specs.SlotRows.{SlotsRise};
 
     ghost Value = { List (ℕ × KeyRow) };
 
     ghost view = { λ r. r.list.items };
+
+    ghost invariant = { λ r. SlotsRise r.list.items };
 }
 
 impl Rows {
@@ -35,21 +39,23 @@ impl Rows {
 
     /// The rows of this list, whose slots rise.
     pub fn of(list: Vec<(u8, KeyRow)>) -> Rows
-        ensures { result ≡ list.items }
+        requires rising { SlotsRise list.items }
+        ensures rows { result ≡ list.items }
     {
         Rows { list }
     }
 
     /// The rows in order, each behind its slot.
     pub fn items(&self) -> &[(u8, KeyRow)]
-        ensures { result.now ≡ self.now }
+        ensures rows { result.now ≡ self.now }
+        ensures rising { SlotsRise result.now }
     {
         self.list.as_slice()
     }
 
     /// Puts a row last, whose slot is above the others. After want of memory the list is as before.
     pub fn push(&mut self, item: (u8, KeyRow)) -> Result<(), NoMemory>
-        requires { All (λ row. row.0 < item.0) self.old }
+        requires rising { SlotsRise (self.old ++ item ∷ []) }
         ensures ok { OnOk result (self.new ≡ self.old ++ item ∷ []) }
         ensures err { OnErr result (self.new ≡ self.old) }
     {

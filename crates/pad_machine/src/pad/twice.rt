@@ -121,8 +121,10 @@ impl<W: PinWork + Drop> Pad<W> {
         let said_before = out.items().len();
         let stepped = self.take_step(disk, step, done, out)?;
         say_again(&out.items()[said_before..], spare.out, second);
+        // There are at most 64 rows, for which the room was made.
+        let _rows = self.parts.rows();
         let again = Stepped {
-            word: copy_word(&stepped.word, self.parts.rows(), spare.rows),
+            word: copy_word(&stepped.word, spare.rows),
             fate: stepped.fate,
         };
         Ok((stepped, again))

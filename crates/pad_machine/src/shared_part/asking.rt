@@ -134,7 +134,7 @@ fn key_view(row: &KeyRow) -> KeyView
     };
     KeyView {
         name: row.name.copy(),
-        uses: row.uses.copy(),
+        uses: row.uses,
         length: row.value.bytes().len() as u8,
         check,
     }

@@ -1,4 +1,4 @@
-use Rattle.std.proofs.Common.{ap, arith, length, replicate, subst, sym, ◌≡◌, ◌∙◌}
+use Rattle.std.proofs.Common.{ap, arith, length, replicate, subst, ◌≡◌, ◌∙◌}
 use Rattle.std.proofs.lemmas.Bool.Decides.{nat_tests}
 use Rattle.std.specs.Prelude.{List, ℕ}
 use Rattle.pad_steps.specs.declared.commands.Form.{Form}

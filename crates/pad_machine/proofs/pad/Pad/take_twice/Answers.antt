@@ -1,9 +1,8 @@
-use Rattle.std.proofs.Common.{◌≡◌, ◌≤◌, ◌++◌, ◌-◌, ap, arith, drop, length, subst, sym, take, ◌∙◌}
+use Rattle.std.proofs.Common.{◌≡◌, ◌≤◌, ◌++◌, ◌-◌, ap, arith, drop, length, subst, take, ◌∙◌}
 use Rattle.key_table.specs.KeyRows.{KeyRows}
 use Rattle.pad_machine.proofs.TwiceLemmas.{rows_again, said_again, second_step}
 use Rattle.pad_machine.specs.Runs.{IsPadStep}
 use Rattle.pad_machine.specs.Stands.{PadState}
-use Rattle.pad_machine.specs.Twice.{LoadedThese, rows_room}
 use Rattle.pad_machine.proofs.pad.Pad.take_twice.Goals as goal
 
 pub say_again-requires-clause-room : goal.say_again-requires-clause-room
@@ -20,13 +19,12 @@ say_again-requires-clause-known g c =
 
 pub copy_word-requires : goal.copy_word-requires
 copy_word-requires g c =
-    let same : c.rows.result.now ≡ c.take_step.new.self.kept.shared.keys = c.rows.ensures.rows ∙ ap (λ (pad : PadState). pad.kept.shared.keys) c.self-2.view_is in
+    let same : c.rows-rows.result.now ≡ c.take_step.new.self.kept.shared.keys = c.rows-rows.ensures.rows ∙ ap (λ (pad : PadState). pad.kept.shared.keys) c.self-2.view_is in
     rw c.spare_of-spare.ensures.rows
-    (subst (λ (rows : KeyRows). LoadedThese rows (rows_room c.in_ok-prepared.prepared) c.in_ok-stepped.stepped.word) (sym same)
     (rows_again g.W.PinWork.rules c.prepare.new.self c.in_ok-prepared.prepared c.args.step.now c.without_key.result c.without_key.ensures.step c.in_ok-prepared.ensures.does
     c.in_ok-prepared.ensures.planned c.works_of_commands.ensures.loads c.in_ok-prepared.ensures.fits
     c.take_step.new.self c.args.out.now.items c.take_step.new.out.items c.in_ok-stepped.stepped.word (g.D.Disk.state c.args.disk.now) (g.D.Disk.state c.take_step.new.disk)
-    c.in_ok-stepped.ensures.kept c.in_ok-stepped.ensures.step.on_disk (subst (λ (rows : KeyRows). length rows ≤ 64) same c.rows.ensures.few)))
+    c.in_ok-stepped.ensures.kept c.in_ok-stepped.ensures.step.on_disk (subst (λ (rows : KeyRows). length rows ≤ 64) same c.rows-rows.ensures.few))
 
 pub returns-clause-first : goal.returns-clause-first
 returns-clause-first g c = subst (λ (old : PadState). IsPadStep g.W.PinWork.rules old c.take_step.new.self c.args.out.now.items c.take_step.new.out.items c.args.step.now c.in_ok-stepped.stepped (g.D.Disk.state c.args.disk.now) (g.D.Disk.state c.take_step.new.disk))
