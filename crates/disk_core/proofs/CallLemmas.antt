@@ -1,11 +1,11 @@
 -- Calls one after another.
-use Rattle.std.proofs.Common.{◌≡◌, ◌≤◌, ℕ, ◌+◌, ◌-◌, Bool, true, false, if◌then◌else◌, Option, Some, None, refl, sym, ◌∙◌, ap, subst, arith}
+use Rattle.std.proofs.Common.{◌≡◌, ◌≤◌, ℕ, ◌+◌, ◌-◌, Bool, true, false, if◌then◌else◌, Option, Some, None, refl, suc, sym, zero, ◌∙◌, ap, subst, arith}
 use Rattle.std.specs.Prelude.{nat_le}
 use Rattle.std.proofs.lemmas.Bool.Decides.{nat_tests}
 use Rattle.disk_core.specs.declared.disk.DiskError.{DiskError}
-use Rattle.disk_core.specs.declared.disk.DiskError.TheVariants.{Off}
+use Rattle.disk_core.specs.declared.disk.DiskError.TheVariants.{Failed, Off}
 use Rattle.disk_core.specs.DiskStates.{Arming, DiskState, IsDiskState}
-use Rattle.disk_core.specs.Disks.{DeviceCalls, ObeysArming, armed_after, strike_fault, struck_within}
+use Rattle.disk_core.specs.Disks.{DeviceCalls, ObeysArming, armed_after, failed_after, strike_fault, struck_within}
 
 -- the test of a sum
 le_sum : (c n m : ℕ) → nat_le c n ≡ false → nat_le (c - n) m ≡ nat_le c (n + m)
@@ -40,6 +40,20 @@ obeys_then n m (Some a) b c fault first second =
     let now : (c ≡ Some (armed_after m (armed_after n a))) × (fault ≡ struck_within m (armed_after n a)) = subst P first.0 second in
     (now.0 ∙ ap (λ (o : Option Arming). Some o) (after_then n m a first.1), now.1 ∙ struck_then n m a first.1)
 
+failed_then : (n m : ℕ) (a b c : Bool) (fault : Option DiskError) → b ≡ failed_after n a None → c ≡ failed_after m b fault → c ≡ failed_after (n + m) a fault
+failed_then n m a b c (Some Failed) first second = second
+failed_then n m a b c (Some Off) first second = second
+failed_then n m a b c None first second = second ∙ ap (λ (before : Bool). failed_after m before None) first ∙ none_failed n m a
+  where
+    none_failed : (n m : ℕ) (a : Bool) → failed_after m (failed_after n a None) None ≡ failed_after (n + m) a None
+    none_failed zero m a = let same : 0 + m ≡ m = omega arith in ap (λ (k : ℕ). failed_after k a None) (sym same)
+    none_failed (suc n) zero a = let same : suc n + 0 ≡ suc n = omega arith in ap (λ (k : ℕ). failed_after k a None) (sym same)
+    none_failed (suc n) (suc m) a = let same : suc n + suc m ≡ suc (n + suc m) = omega arith in ap (λ (k : ℕ). failed_after k a None) (sym same)
+
+failed_more : (n m : ℕ) (before : Bool) (e : DiskError) → failed_after n before (Some e) ≡ failed_after (n + m) before (Some e)
+failed_more n m before Failed = refl
+failed_more n m before Off = refl
+
 -- a run of calls with no fault, and then another run
 pub calls_then : (n m : ℕ) (s t u : DiskState) (fault : Option DiskError) → DeviceCalls n s t None → DeviceCalls m t u fault → DeviceCalls (n + m) s u fault
 calls_then n m s t u fault first second = record {
@@ -53,6 +67,8 @@ calls_then n m s t u fault first second = record {
   tells = second.tells ∙ first.tells;
   armed = λ on. obeys_then n m s.armed t.armed u.armed fault (first.armed on) (second.armed first.now_off);
   armed_off = λ off. absurd (let e : None ≡ Some Off = first.was_off off in cc);
+  last = λ on. failed_then n m s.failed t.failed u.failed fault (first.last on) (second.last first.now_off);
+  last_off = λ off. absurd (let e : None ≡ Some Off = first.was_off off in cc);
 }
 
 obeys_more : (n m : ℕ) (a b : Option (Option Arming)) (e : DiskError) → ObeysArming n a b (Some e) → ObeysArming (n + m) a b (Some e)
@@ -84,6 +100,8 @@ calls_more n m s t e first = record {
   tells = first.tells;
   armed = λ on. obeys_more n m s.armed t.armed e (first.armed on);
   armed_off = first.armed_off;
+  last = λ on. first.last on ∙ failed_more n m s.failed e;
+  last_off = first.last_off;
 }
 
 obeys_none : (told : Option (Option Arming)) → ((a : Arming) → told ≡ Some (Some a) → 1 ≤ a.0) → ObeysArming 0 told told None
@@ -104,4 +122,6 @@ calls_none s laws on = record {
   tells = refl;
   armed = λ _. obeys_none s.armed laws.armed;
   armed_off = λ _. refl;
+  last = λ _. refl;
+  last_off = λ _. refl;
 }

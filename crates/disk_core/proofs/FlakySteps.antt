@@ -1,5 +1,5 @@
 -- A write that a disk does not hand on to the disk inside.
-use Rattle.std.proofs.Common.{◌≡◌, ℕ, ◌+◌, ◌≤◌, List, length, Result, Option, Some, None, refl, sym, subst, arith}
+use Rattle.std.proofs.Common.{◌≡◌, ℕ, ◌+◌, ◌≤◌, Bool, List, length, Result, Option, Some, None, refl, sym, subst, arith}
 use Rattle.std.specs.Prelude.{IsErrAnd, IfSome}
 use Rattle.disk_core.specs.DiskStates.{DiskState, IsDiskState, TornWithin}
 use Rattle.disk_core.specs.Disks.{Writes, fault_in}
@@ -18,9 +18,9 @@ module _ {D : Type 0} (state : D → DiskState) (laws : (d : D) → IsDiskState 
   torn : (d : D) (c : List ℕ) → (state d).image c → TornWithin at (length bytes) c c
   torn d c image = TornWithin-same c at (length bytes) (omega (arith, (laws d).sized c image, fits))
 
-  unwritten : (d : D) (e : DiskError) (n m : ℕ)
-      → Writes at bytes (record (state d) { faults = n; armed = None }) (record (state d) { faults = m; armed = None }) (Some e)
-  unwritten d e n m = record {
+  unwritten : (d : D) (e : DiskError) (n m : ℕ) (last now : Bool)
+      → Writes at bytes (record (state d) { faults = n; failed = last; armed = None }) (record (state d) { faults = m; failed = now; armed = None }) (Some e)
+  unwritten d e n m last now = record {
     image = λ c image. (c, image, torn d c image);
     image_off = λ off c image. image;
     written = λ none. absurd (cc);
@@ -33,4 +33,4 @@ module _ {D : Type 0} (state : D → DiskState) (laws : (d : D) → IsDiskState 
       let after : D → DiskState = λ d. flaky_state state (record g { inner = d }) in
       moved (Writes at bytes (flaky_state state f) (flaky_state state g)) (fault_in r) (Some e) (fault_is r e is)
       (subst (λ (d : D). Writes at bytes (flaky_state state f) (after d) (Some e)) (sym same)
-      (unwritten f.inner e (flaky_state state f).faults (after f.inner).faults))
+      (unwritten f.inner e (flaky_state state f).faults (after f.inner).faults (flaky_state state f).failed (after f.inner).failed))

@@ -13,22 +13,23 @@ use Rattle.disk_core.specs.DiskMemories.{IsCrashImage, IsSettledBy}
 use Rattle.disk_core.proofs.CrashImages.{image_written, image_settled}
 
 -- the state of a disk in memory, by its parts
-abbrev pub state_of_parts : List ℕ → List Bool → ℕ → ℕ → Bool → Option Arming → DiskState
-state_of_parts bytes dirty faults cuts off armed = record {
+abbrev pub state_of_parts : List ℕ → List Bool → ℕ → ℕ → Bool → Bool → Option Arming → DiskState
+state_of_parts bytes dirty faults cuts failed off armed = record {
   content = Some bytes;
   image = IsCrashImage bytes dirty;
   faults = faults;
   cuts = cuts;
+  failed = failed;
   off = off;
   armed = Some armed;
 }
 
-module _ (bytes part : List ℕ) (dirty : List Bool) (at : ℕ) (fits : at + length part ≤ length bytes) (long : length dirty ≡ length bytes) (f f' k k' : ℕ) (a a' : Option Arming) where
+module _ (bytes part : List ℕ) (dirty : List Bool) (at : ℕ) (fits : at + length part ≤ length bytes) (long : length dirty ≡ length bytes) (f f' k k' : ℕ) (l l' : Bool) (a a' : Option Arming) where
   fits_dirty : at + length part ≤ length dirty
   fits_dirty = omega (arith, long)
 
   -- nothing is written
-  pub unwritten : (o o' : Bool) (e : DiskError) → Writes at part (state_of_parts bytes dirty f k o a) (state_of_parts bytes dirty f' k' o' a') (Some e)
+  pub unwritten : (o o' : Bool) (e : DiskError) → Writes at part (state_of_parts bytes dirty f k l o a) (state_of_parts bytes dirty f' k' l' o' a') (Some e)
   unwritten o o' e = record {
     image = λ c image. (c, image, TornWithin-same c at (length part) (omega (arith, image.size)));
     image_off = λ off c image. image;
@@ -42,7 +43,7 @@ module _ (bytes part : List ℕ) (dirty : List Bool) (at : ℕ) (fits : at + len
       image_written bytes part dirty at fits fits_dirty c (subst (λ (l : List ℕ). IsCrashImage l (splice dirty at (replicate (length part) true)) c) is_bytes (subst (λ (m : List Bool). IsCrashImage bytes' m c) is_dirty image))
 
   pub written : (o o' : Bool) (bytes' : List ℕ) (dirty' : List Bool) → o ≡ false → bytes' ≡ splice bytes at part → dirty' ≡ splice dirty at (replicate (length part) true)
-      → Writes at part (state_of_parts bytes dirty f k o a) (state_of_parts bytes' dirty' f' k' o' a') None
+      → Writes at part (state_of_parts bytes dirty f k l o a) (state_of_parts bytes' dirty' f' k' l' o' a') None
   written o o' bytes' dirty' on is_bytes is_dirty = record {
     image = images bytes' dirty' is_bytes is_dirty;
     image_off = λ off. absurd (let e : true ≡ false = sym off ∙ on in cc);
@@ -53,7 +54,7 @@ module _ (bytes part : List ℕ) (dirty : List Bool) (at : ℕ) (fits : at + len
   -- a cut in a write
   pub cut : (o o' : Bool) (keep : Keep) (old bytes' after : List ℕ) (dirty' dirty'' : List Bool) → o ≡ false → bytes' ≡ splice bytes at part → dirty' ≡ splice dirty at (replicate (length part) true)
       → length dirty' ≡ length bytes' → length after ≡ length bytes' → IsSettledBy keep old bytes' dirty' after → dirty'' ≡ replicate (length dirty') false
-      → Writes at part (state_of_parts bytes dirty f k o a) (state_of_parts after dirty'' f' k' o' a') (Some Off)
+      → Writes at part (state_of_parts bytes dirty f k l o a) (state_of_parts after dirty'' f' k' l' o' a') (Some Off)
   cut o o' keep old bytes' after dirty' dirty'' on is_bytes is_dirty long_dirty long_after settled clean = record {
     image = λ c image. images bytes' dirty' is_bytes is_dirty c (image_settled keep old bytes' after dirty' dirty'' c long_dirty long_after clean settled image);
     image_off = λ off. absurd (let e : true ≡ false = sym off ∙ on in cc);

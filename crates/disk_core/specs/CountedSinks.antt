@@ -19,6 +19,10 @@ counted_given given s = given s.inner
 abbrev pub counted_faults : {K : Type 0} → (K → ℕ) → Counted K → ℕ
 counted_faults faults s = min (faults s.inner + s.zeros) (2 ^ 64 - 1)
 
+-- the calls of the sink inside
+abbrev pub counted_calls : {K : Type 0} → (K → ℕ) → Counted K → ℕ
+counted_calls calls s = calls s.inner
+
 -- the sink inside failed, and counted it
 pub record FailsInside {K : Type 0} (faults : K → ℕ) (old new : Counted K) : Type 0 where
   pub inside : Rose (faults old.inner) (faults new.inner)

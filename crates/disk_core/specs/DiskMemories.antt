@@ -15,6 +15,7 @@ pub record DiskMemory : Type 0 where
   pub dirty : List Bool
   pub faults : ℕ
   pub cuts : ℕ
+  pub failed : Bool
   pub off : Bool
   pub armed : Option Arming
 
@@ -34,6 +35,7 @@ memory_state m = record {
   image = IsCrashImage m.bytes m.dirty;
   faults = m.faults;
   cuts = m.cuts;
+  failed = m.failed;
   off = m.off;
   armed = Some m.armed;
 }
@@ -46,6 +48,7 @@ fresh_memory bytes = record {
   dirty = replicate DISK_BYTES false;
   faults = 0;
   cuts = 0;
+  failed = false;
   off = false;
   armed = None;
 }
@@ -81,13 +84,14 @@ pub record IsCut (keep : Keep) (m n : DiskMemory) : Type 0 where
   pub power : LosesPower keep m n
   pub faults : n.faults ≡ m.faults
   pub cuts : n.cuts ≡ next_count m.cuts
+  pub failed : n.failed ≡ false
   pub armed : n.armed ≡ None
 
 -- a call that leaves `done` if it is not struck, and in which a power cut finds `found`
 pub record HasEffect (found done m n : DiskMemory) : Type 0 where
   pub off : m.off ≡ true → n ≡ m
-  pub unstruck : m.off ≡ false → strike_of m.armed ≡ None → n ≡ record done { armed = armed_after 1 m.armed }
-  pub failed : m.off ≡ false → strike_of m.armed ≡ Some Fail → n ≡ record m { faults = next_count m.faults; armed = None }
+  pub unstruck : m.off ≡ false → strike_of m.armed ≡ None → n ≡ record done { failed = false; armed = armed_after 1 m.armed }
+  pub failed : m.off ≡ false → strike_of m.armed ≡ Some Fail → n ≡ record m { faults = next_count m.faults; failed = true; armed = None }
   pub cut : (keep : Keep) → m.off ≡ false → strike_of m.armed ≡ Some (Cut keep) → IsCut keep found n
 
 abbrev pub HasReadEffect : DiskMemory → DiskMemory → Type 0

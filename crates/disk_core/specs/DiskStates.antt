@@ -16,6 +16,8 @@ pub record DiskState : Type 1 where
   -- how many calls failed, and in how many the power was cut
   pub faults : ℕ
   pub cuts : ℕ
+  -- the last call failed, of those that found the disk on
+  pub failed : Bool
   pub off : Bool
   -- what is armed, where the disk tells it
   pub armed : Option (Option Arming)

@@ -1,5 +1,5 @@
 -- What the calls of a disk do to its state.
-use Rattle.std.specs.Prelude.{◌≡◌, ℕ, ◌+◌, ◌-◌, ◌≤◌, nat_le, Bool, true, false, if◌then◌else◌, List, length, slice_range, Option, Some, None, IfSome, is_some, Result, Ok, Err}
+use Rattle.std.specs.Prelude.{◌≡◌, ℕ, ◌+◌, ◌-◌, ◌≤◌, nat_le, Bool, true, false, if◌then◌else◌, List, length, slice_range, Option, Some, None, IfSome, is_some, suc, zero, Result, Ok, Err}
 use Rattle.std.specs.Option.{option_map}
 use Rattle.disk_core.specs.Causes.{Rose}
 use Rattle.disk_core.specs.DiskStates.{Arming, DiskState, IsOnlyImage, Shrinks, TearsWithin, TornWithin, splice}
@@ -23,6 +23,13 @@ is_cut (Some Off) = true
 abbrev pub strike_fault : Strike → DiskError
 strike_fault Fail = Failed
 strike_fault (Cut keep) = Off
+
+-- whether the last call failed, after n more, of which the last may have answered a fault
+abbrev pub failed_after : ℕ → Bool → Option DiskError → Bool
+failed_after zero before None = before
+failed_after (suc n) before None = false
+failed_after n before (Some Failed) = true
+failed_after n before (Some Off) = false
 
 -- the strike of the next call
 abbrev pub strike_of : Option Arming → Option Strike
@@ -58,6 +65,8 @@ pub record DeviceCalls (n : ℕ) (s t : DiskState) (fault : Option DiskError) : 
   pub cut : s.off ≡ false → fault ≡ Some Off → Rose s.cuts t.cuts
   -- where no call answered a fault, both counts stay
   pub done : fault ≡ None → KeepsCounts s t
+  -- no call follows one that failed
+  pub last : s.off ≡ false → t.failed ≡ failed_after n s.failed fault
   -- a disk that is off answers so, and an answer of it is what makes it off
   pub was_off : s.off ≡ true → fault ≡ Some Off
   pub now_off : t.off ≡ is_cut fault
@@ -65,6 +74,7 @@ pub record DeviceCalls (n : ℕ) (s t : DiskState) (fault : Option DiskError) : 
   -- a call that finds the disk off does not count
   pub armed : s.off ≡ false → ObeysArming n s.armed t.armed fault
   pub armed_off : s.off ≡ true → t.armed ≡ s.armed
+  pub last_off : s.off ≡ true → t.failed ≡ s.failed
 
 -- what a read gives stays, unless the power is off
 abbrev pub KeepsContent : DiskState → DiskState → Type 0

@@ -1,5 +1,5 @@
 -- A disk that fails the calls of a list, and hands all others to a disk inside.
-use Rattle.std.specs.Prelude.{◌≡◌, ℕ, ◌+◌, ◌-◌, ◌^◌, min, true, false, List, Contains, Option, Some, None}
+use Rattle.std.specs.Prelude.{◌≡◌, ℕ, ◌+◌, ◌-◌, ◌^◌, ◌||◌, Bool, min, true, false, List, Contains, Option, Some, None}
 use Rattle.disk_core.specs.Causes.{next_count}
 use Rattle.disk_core.specs.DiskStates.{DiskState, IsDiskState}
 use Rattle.disk_core.specs.Disks.{DeviceCalls}
@@ -15,11 +15,14 @@ pub record FlakyState (D : Type 0) : Type 0 where
   pub calls : ℕ
   -- how many of them were failed here
   pub faults : ℕ
+  -- the last call was failed here, of those that found the disk on
+  pub failed : Bool
 
--- the state of the disk inside, but for the faults that were counted here; what is armed is not told
+-- the state of the disk inside, but for the faults that were made here; what is armed is not told
 abbrev pub flaky_state : {D : Type 0} → (D → DiskState) → FlakyState D → DiskState
 flaky_state state f = record (state f.inner) {
   faults = min ((state f.inner).faults + f.faults) (2 ^ 64 - 1);
+  failed = f.failed || (state f.inner).failed;
   armed = None;
 }
 
@@ -38,11 +41,11 @@ IsToFail f = Contains f.fails (next_count f.calls)
 
 -- one more call
 abbrev pub with_call : {D : Type 0} → FlakyState D → FlakyState D
-with_call f = record f { calls = next_count f.calls }
+with_call f = record f { calls = next_count f.calls; failed = false }
 
 -- one more call, which was failed here
 abbrev pub with_failed_call : {D : Type 0} → FlakyState D → FlakyState D
-with_failed_call f = record (with_call f) { faults = next_count f.faults }
+with_failed_call f = record (with_call f) { faults = next_count f.faults; failed = true }
 
 -- what a call does to a disk's state, beside the fault that it answers
 abbrev pub DiskStep : Type 1

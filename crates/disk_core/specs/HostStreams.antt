@@ -6,7 +6,8 @@ pub record HostState (H : Type 0) : Type 0 where
   -- the reader or writer, as it is and as it was at first
   pub host : H
   pub first : H
-  -- how many of its calls failed
+  -- how many calls of it there were, and how many of them failed
+  pub calls : ℕ
   pub faults : ℕ
 
 -- what is told now, where it was told at first
@@ -26,12 +27,12 @@ host_bytes bytes s = told_since (bytes s.first) (bytes s.host)
 
 -- a reader or writer of which no call was made here
 abbrev pub fresh_host : {H : Type 0} → H → HostState H
-fresh_host host = record { host = host; first = host; faults = 0 }
+fresh_host host = record { host = host; first = host; calls = 0; faults = 0 }
 
 -- one call of the reader or writer, which did not fail
 abbrev pub HostDoes : {H : Type 0} → HostState H → HostState H → Type 0
-HostDoes s t = t ≡ record s { host = t.host }
+HostDoes s t = t ≡ record s { host = t.host; calls = next_count s.calls }
 
 -- one call of the reader or writer, which failed
 abbrev pub HostFails : {H : Type 0} → HostState H → HostState H → Type 0
-HostFails s t = t ≡ record s { host = t.host; faults = next_count s.faults }
+HostFails s t = t ≡ record s { host = t.host; calls = next_count s.calls; faults = next_count s.faults }

@@ -13,6 +13,7 @@ memory_of d = record {
   dirty = d.dirty;
   faults = d.faults;
   cuts = d.cuts;
+  failed = d.failed;
   off = d.off;
   armed = d.armed;
 }

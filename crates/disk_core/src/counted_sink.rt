@@ -1,8 +1,8 @@
 //! A sink that must take something of what it is given.
 ghost use Rattle.std.specs.Prelude.{◌≡◌, ◌<◌, ◌⊎◌, length, IfOk, OnOk, OnErr};
-ghost use Rattle.disk_core.specs.Causes.{HasCause};
+ghost use Rattle.disk_core.specs.Causes.{HasCause, next_count};
 ghost use Rattle.disk_core.specs.Streams.{Gives, GivesFront, with_more};
-ghost use Rattle.disk_core.specs.CountedSinks.{counted_inner, counted_zeros, counted_given, counted_faults, FailsInside, FailsByZero};
+ghost use Rattle.disk_core.specs.CountedSinks.{counted_inner, counted_zeros, counted_given, counted_faults, counted_calls, FailsInside, FailsByZero};
 
 use crate::traits::{Failed, Sink};
 
@@ -32,15 +32,18 @@ impl<K: Sink> Counted<K> {
 }
 
 impl<K: Sink> Sink for Counted<K> {
-    ghost use Rattle.disk_core.specs.CountedSinks.{counted_given, counted_faults};
+    ghost use Rattle.disk_core.specs.CountedSinks.{counted_given, counted_faults, counted_calls};
 
     ghost given = { counted_given K.given };
 
     ghost faults = { counted_faults K.faults };
 
+    ghost calls = { counted_calls K.calls };
+
     fn give(&mut self, piece: &[u8]) -> Result<usize, Failed>
         ensures gives { Gives (counted_given K.given self.old) (counted_given K.given self.new) piece.now result }
         ensures cause { HasCause (counted_faults K.faults self.old) (counted_faults K.faults self.new) result }
+        ensures counts { counted_calls K.calls self.new ≡ next_count (counted_calls K.calls self.old) }
         ensures progress { 0 < length piece.now → IfOk result (λ n. 0 < n) }
 
         // What a failure counts, and where.

@@ -17,6 +17,7 @@ pub struct FlakyDisk<D: ArmDisk> {
     fails: Calls,
     calls: u64,
     faults: u64,
+    failed: bool,
     off: bool,
 }
 
@@ -26,7 +27,7 @@ impl<D: ArmDisk> Model for FlakyDisk<D> {
 
     ghost Value = { FlakyState D };
 
-    ghost view = { λ f. record { inner = f.inner; fails = f.fails; calls = f.calls; faults = f.faults } };
+    ghost view = { λ f. record { inner = f.inner; fails = f.fails; calls = f.calls; faults = f.faults; failed = f.failed } };
 
     ghost invariant = { λ f. f.off ≡ (D.state f.inner).off };
 }
@@ -35,13 +36,14 @@ impl<D: ArmDisk> FlakyDisk<D> {
     /// A disk round this one, which is on, with no call yet.
     pub fn new(inner: D, fails: Calls) -> FlakyDisk<D>
         requires { (D.state inner).off ≡ false }
-        ensures { result ≡ record { inner = inner; fails = fails; calls = 0; faults = 0 } }
+        ensures { result ≡ record { inner = inner; fails = fails; calls = 0; faults = 0; failed = false } }
     {
         FlakyDisk {
             inner,
             fails,
             calls: 0,
             faults: 0,
+            failed: false,
             off: false,
         }
     }
@@ -60,7 +62,8 @@ impl<D: ArmDisk> FlakyDisk<D> {
             return Err(DiskError::Off);
         }
         self.calls = self.calls.saturating_add(1);
-        if self.fails.has(self.calls) {
+        self.failed = self.fails.has(self.calls);
+        if self.failed {
             self.faults = self.faults.saturating_add(1);
             return Err(DiskError::Failed);
         }

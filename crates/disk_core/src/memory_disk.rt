@@ -19,6 +19,7 @@ pub struct MemDisk {
     dirty: [bool; DISK_BYTES],
     faults: u64,
     cuts: u64,
+    failed: bool,
     off: bool,
     armed: Option<(u32, Strike)>,
     ghost bytes_size: { length bytes ≡ DISK_BYTES },
@@ -49,6 +50,7 @@ impl MemDisk {
             dirty: [false; DISK_BYTES],
             faults: 0,
             cuts: 0,
+            failed: false,
             off: false,
             armed: None,
         }
@@ -64,6 +66,7 @@ impl MemDisk {
         if self.off {
             return Err(DiskError::Off);
         }
+        self.failed = false;
         match count_call(&mut self.armed) {
             None => {
                 write_into(&mut self.bytes, &mut self.dirty, at, part);
@@ -71,6 +74,7 @@ impl MemDisk {
             }
             Some(Strike::Fail) => {
                 self.faults = self.faults.saturating_add(1);
+                self.failed = true;
                 Err(DiskError::Failed)
             }
             Some(Strike::Cut(keep)) => {

@@ -62,9 +62,12 @@ impl Sink for MemSink {
 
     ghost faults = { λ s. s.faults };
 
+    ghost calls = { λ s. s.calls };
+
     fn give(&mut self, piece: &[u8]) -> Result<usize, Failed>
         ensures gives { Gives (Some self.old.given) (Some self.new.given) piece.now result }
         ensures cause { HasCause self.old.faults self.new.faults result }
+        ensures counts { self.new.calls ≡ next_count self.old.calls }
 
         // Which calls fail, how many bytes the others take, and what stands after each.
         ensures fails { IsErr result ↔ Contains self.old.fails (next_count self.old.calls) }

@@ -54,9 +54,12 @@ impl Source for MemSource {
 
     ghost faults = { λ s. s.faults };
 
+    ghost calls = { λ s. s.calls };
+
     fn take(&mut self, piece: &mut [u8]) -> Result<usize, Failed>
         ensures taken { Takes (Some self.old.left) (Some self.new.left) piece.old piece.new result }
         ensures cause { HasCause self.old.faults self.new.faults result }
+        ensures counts { self.new.calls ≡ next_count self.old.calls }
 
         // Which calls fail, how many bytes the others take, and what stands after each.
         ensures fails { IsErr result ↔ Contains self.old.fails (next_count self.old.calls) }

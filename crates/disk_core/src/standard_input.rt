@@ -1,7 +1,7 @@
 //! A reader of the library as a source, as standard input is. A source over a reader that tells its bytes tells them
 //! too. No contract can say which bytes standard input holds, so it tells none.
 ghost use Rattle.std.specs.Prelude.{◌≡◌, OnOk, OnErr};
-ghost use Rattle.disk_core.specs.Causes.{HasCause};
+ghost use Rattle.disk_core.specs.Causes.{HasCause, next_count};
 ghost use Rattle.disk_core.specs.HostStreams.{fresh_host, host_bytes, HostDoes, HostFails};
 ghost use Rattle.disk_core.specs.Streams.{Takes};
 
@@ -16,6 +16,7 @@ use std::snapshot::Snapshot;
 pub struct StdSource<I: Read> {
     input: I,
     first: Snapshot<I>,
+    calls: u64,
     faults: u64,
 }
 
@@ -24,7 +25,7 @@ impl<I: Read> Model for StdSource<I> {
 
     ghost Value = { HostState I };
 
-    ghost view = { λ s. record { host = s.input; first = s.first.value; faults = s.faults } };
+    ghost view = { λ s. record { host = s.input; first = s.first.value; calls = s.calls; faults = s.faults } };
 
     ghost invariant = { λ s. StaysTold (I.remaining s.first.value) (I.remaining s.input) };
 }
@@ -37,12 +38,14 @@ impl<I: Read> StdSource<I> {
         StdSource {
             first: Snapshot::of(&input),
             input,
+            calls: 0,
             faults: 0,
         }
     }
 
     /// The standard input of `rt`, with no fault yet.
     pub fn new<R: Input<Reader = I>>(rt: &R) -> StdSource<I>
+        ensures calls { result.calls ≡ 0 }
         ensures faults { result.faults ≡ 0 }
         ensures first { result.first ≡ result.host }
     {
@@ -57,13 +60,17 @@ impl<I: Read> Source for StdSource<I> {
 
     ghost faults = { λ s. s.faults };
 
+    ghost calls = { λ s. s.calls };
+
     /// One read of the host, which keeps no bytes back.
     fn take(&mut self, piece: &mut [u8]) -> Result<usize, Failed>
         ensures taken { Takes (host_bytes I.remaining self.old) (host_bytes I.remaining self.new) piece.old piece.new result }
         ensures cause { HasCause self.old.faults self.new.faults result }
+        ensures counts { self.new.calls ≡ next_count self.old.calls }
         ensures done { OnOk result (HostDoes self.old self.new) }
         ensures failed { OnErr result (HostFails self.old self.new) }
     {
+        self.calls = self.calls.saturating_add(1);
         let done = self.input.read(piece);
         count_fault(&mut self.faults, done)
     }

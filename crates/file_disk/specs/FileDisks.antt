@@ -10,11 +10,12 @@ use Rattle.disk_core.specs.declared.disk.Strike.{Strike}
 use Rattle.disk_core.specs.declared.disk.TheConstants.{DISK_BYTES}
 use Rattle.file_disk.specs.Files.{FileContent, FileState, after_resize}
 
--- the file, its counts, whether it is off, and what is armed
+-- the file, its counts, whether the last call failed, whether it is off, and what is armed
 pub record FileDiskState (F : Type 0) : Type 0 where
   pub file : F
   pub faults : ℕ
   pub cuts : ℕ
+  pub failed : Bool
   pub off : Bool
   pub armed : Option Arming
 
@@ -25,6 +26,7 @@ as_disk f = record {
   image = λ c. length c ≡ DISK_BYTES;
   faults = f.faults;
   cuts = f.cuts;
+  failed = f.failed;
   off = f.off;
   armed = None;
 }
@@ -33,13 +35,13 @@ as_disk f = record {
 pub disk_laws : {F : Type 0} → (f : FileDiskState F) → IsDiskState (as_disk f)
 disk_laws f = record { told = tt; sized = λ c long. long; armed = λ a e. absurd (cc) }
 
--- one call less up to the one that is to be struck
+-- one call more, which did not fail, and one less up to the one that is to be struck
 abbrev pub with_call_counted : {F : Type 0} → FileDiskState F → FileDiskState F
-with_call_counted f = record f { armed = armed_after 1 f.armed }
+with_call_counted f = record f { failed = false; armed = armed_after 1 f.armed }
 
 -- one failed call more
 abbrev pub with_fault : {F : Type 0} → FileDiskState F → FileDiskState F
-with_fault f = record f { faults = next_count f.faults }
+with_fault f = record f { faults = next_count f.faults; failed = true }
 
 -- one power cut more, which made it off
 abbrev pub with_cut : {F : Type 0} → FileDiskState F → FileDiskState F
@@ -47,7 +49,7 @@ with_cut f = record f { cuts = next_count f.cuts; off = true }
 
 -- a disk over a file of which no call was made
 abbrev pub fresh_disk : {F : Type 0} → F → FileDiskState F
-fresh_disk file = record { file = file; faults = 0; cuts = 0; off = false; armed = None }
+fresh_disk file = record { file = file; faults = 0; cuts = 0; failed = false; off = false; armed = None }
 
 -- lengthened with zero bytes to those of a disk, where it is shorter
 abbrev pub lengthened : FileContent → FileContent

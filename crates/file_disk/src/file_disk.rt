@@ -32,6 +32,7 @@ pub struct FileDisk<F: RandomAccessFile> {
     file: F,
     faults: u64,
     cuts: u64,
+    failed: bool,
     off: bool,
     armed: Option<(u32, Strike)>,
 }
@@ -43,7 +44,7 @@ impl<F: RandomAccessFile> Model for FileDisk<F> {
 
     ghost Value = { FileDiskState F };
 
-    ghost view = { λ d. record { file = d.file; faults = d.faults; cuts = d.cuts; off = d.off; armed = d.armed } };
+    ghost view = { λ d. record { file = d.file; faults = d.faults; cuts = d.cuts; failed = d.failed; off = d.off; armed = d.armed } };
 
     ghost invariant = { λ d. ForSome d.armed (λ a. 1 ≤ a.0) };
 }
@@ -84,6 +85,7 @@ impl<F: RandomAccessFile> FileDisk<F> {
                 file,
                 faults: 0,
                 cuts: 0,
+                failed: false,
                 off: false,
                 armed: None,
             }),
@@ -106,6 +108,7 @@ impl<F: RandomAccessFile> FileDisk<F> {
         if self.off {
             return Err(DiskError::Off);
         }
+        self.failed = false;
         match count_call(&mut self.armed) {
             None => Ok(()),
             Some(Strike::Fail) => self.fail(),
@@ -135,6 +138,7 @@ impl<F: RandomAccessFile> FileDisk<F> {
         ensures counts { self.new ≡ with_fault self.old }
     {
         self.faults = self.faults.saturating_add(1);
+        self.failed = true;
         Err(DiskError::Failed)
     }
 }

@@ -57,6 +57,7 @@ pub mod LengthRuns
 pub mod LineLemmas
 pub mod LineMoves
 pub mod LoadedRows
+pub mod LoadingSteps
 pub mod LoadingWork
 pub mod LockRuns
 pub mod OverdueRuns

@@ -1,13 +1,13 @@
 -- Once rows were loaded the machine knows it, in every state after.
 use Rattle.flat_machine.proofs.DeviceStays.{is_still, leaves_next}
 use Rattle.flat_machine.proofs.DeedLists.{or_cases}
-use Rattle.flat_machine.proofs.PowerLemmas.{plan_of_any_count}
+use Rattle.flat_machine.proofs.LoadingSteps.{loaded_step}
 use Rattle.flat_machine.specs.Commands.{work_of}
 use Rattle.flat_machine.specs.Deeds.{Arms, Deed, FitsDeeds, Takes, after_deeds, loads_rows}
 use Rattle.flat_machine.specs.DiskSteps.{is_loaded}
-use Rattle.flat_machine.specs.FinishSteps.{deletes, finish_with, imports, inits, performs, plan_finish, plan_of, resets}
-use Rattle.flat_machine.specs.Machine.{fits, next, plan}
-use Rattle.flat_machine.specs.Power.{Loading, Nothing, Plan, Replacing, fits_plan, loads, powers_off, replaces}
+use Rattle.flat_machine.specs.FinishSteps.{deletes, finish_with, imports, inits, performs, resets}
+use Rattle.flat_machine.specs.Machine.{fits, next}
+use Rattle.flat_machine.specs.Power.{loads, powers_off, replaces}
 use Rattle.flat_machine.specs.Settings.{Setting}
 use Rattle.flat_machine.specs.State.{Flat, Said, Shared, is_off, owner_of, unchanged}
 use Rattle.flat_machine.specs.declared.types.Owner.{Owner}
@@ -23,7 +23,7 @@ use Rattle.pad_steps.specs.declared.steps.Step.{Step}
 use Rattle.request_queue.specs.Requests.{request_in_work}
 use Rattle.request_queue.specs.declared.requests.Request.{Request}
 use Rattle.std.proofs.Common.{⊎_elim, ◌∙◌}
-use Rattle.std.specs.Prelude.{Bool, IsTrue, List, None, Option, Some, [], cond, false, if◌then◌else◌, length, refl, true, ℕ, ◌∷◌, ◌≡◌}
+use Rattle.std.specs.Prelude.{Bool, IsTrue, List, None, Option, Some, [], cond, false, length, refl, true, ℕ, ◌∷◌, ◌≡◌}
 
 -- rows were loaded
 abbrev pub Known : Shared → Type 0
@@ -96,52 +96,12 @@ known_next set h step.Boot w known = known_if h.shared known (is_off h.shared.de
 
 -- a word that loads rows makes it so
 
-loads_alone : (calls : Plan) (rows : KeyRows) → fits_plan calls (word.Loaded rows) ≡ true → calls ≡ Loading
-loads_alone Nothing rows e = cc
-loads_alone Loading rows e = refl
-loads_alone (Replacing todo) rows e = cc
-
-loaded_performs : (set : Setting) (p : Shared) (held : List ℕ) (a : Owner) (v : Work) (rows : KeyRows) → plan_of p v ≡ Loading → Known (performs set p held a v (word.Loaded rows)).shared
-loaded_performs set p held a work.Waits rows e = cc
-loaded_performs set p held a (work.Refuse r accused) rows e = cc
-loaded_performs set p held a (work.Answer x) rows e = cc
-loaded_performs set p held a (work.Maintain on) rows e = cc
-loaded_performs set p held a (work.Keep slot row check from_part) rows e = cc
-loaded_performs set p held a (work.Erase slot) rows e = cc
-loaded_performs set p held a work.EraseAll rows e = cc
-loaded_performs set p held a (work.Release r first second draws) rows e = cc
-loaded_performs set p held a work.Load rows e = refl
-
-loaded_finish : (set : Setting) (p : Shared) (held : List ℕ) (o : Option (Request Command)) (rows : KeyRows) → plan_finish set p o ≡ Loading → Known (finish_with set p held o (word.Loaded rows)).shared
-loaded_finish set p held None rows e = cc
-loaded_finish set p held (Some a) rows e = loaded_performs set p held (owner_of a) (work_of set p (length held) a.command) rows (plan_of_any_count set p (length held) 0 a.command ∙ e)
-
-loaded_boot : (b : Bool) (p : Shared) (rows : KeyRows) → (if b then Loading else Nothing) ≡ Loading → Known (cond b (loads p (word.Loaded rows)) (unchanged p)).shared
-loaded_boot true p rows e = refl
-loaded_boot false p rows e = cc
-
-loaded_next : (set : Setting) (h : Flat) (s : Step) (rows : KeyRows) → plan set h.shared s ≡ Loading → Known (next set h s (word.Loaded rows)).state.shared
-loaded_next set h (step.Open s) rows e = cc
-loaded_next set h (step.Close s) rows e = cc
-loaded_next set h (step.Listen s c) rows e = cc
-loaded_next set h (step.Lock s) rows e = cc
-loaded_next set h (step.Unlock s) rows e = cc
-loaded_next set h (step.Submit s limit c) rows e = cc
-loaded_next set h (step.Cancel s id) rows e = cc
-loaded_next set h step.Begin rows e = cc
-loaded_next set h step.Finish rows e = loaded_finish set h.shared h.held (request_in_work h.shared.requests) rows e
-loaded_next set h (step.Press k) rows e = cc
-loaded_next set h (step.Tick n) rows e = cc
-loaded_next set h (step.Ask s q) rows e = cc
-loaded_next set h step.Off rows e = cc
-loaded_next set h step.Boot rows e = loaded_boot (is_off h.shared.device) h.shared rows e
-
 loaded_word : (set : Setting) (h : Flat) (s : Step) (w : DiskWord) → IsTrue (fits set h.shared s w) → is_loaded w ≡ true → Known (next set h s w).state.shared
 loaded_word set h s word.Quiet fit e = cc
 loaded_word set h s word.Done fit e = cc
 loaded_word set h s (word.Failed n) fit e = cc
 loaded_word set h s (word.Cut n) fit e = cc
-loaded_word set h s (word.Loaded rows) fit e = loaded_next set h s rows (loads_alone (plan set h.shared s) rows fit)
+loaded_word set h s (word.Loaded rows) fit e = (loaded_step set h s rows fit).known
 loaded_word set h s (word.Bad slot) fit e = cc
 
 -- the same along a run

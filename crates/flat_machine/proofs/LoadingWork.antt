@@ -1,7 +1,7 @@
 -- A loading, as device work.
 use Rattle.disk_core.specs.Causes.{Rose}
 use Rattle.disk_core.specs.DiskStates.{Arming, DiskState, EachImage, IsOnlyImage, Shrinks}
-use Rattle.disk_core.specs.Disks.{DeviceCalls, StartsDisk}
+use Rattle.disk_core.specs.Disks.{DeviceCalls, StartsDisk, failed_after}
 use Rattle.disk_core.specs.declared.disk.DiskError.TheVariants as fault
 use Rattle.disk_core.specs.declared.disk.DiskError.{DiskError}
 use Rattle.flat_machine.proofs.ToldBytes.{each_where, told_always, with_told}
@@ -33,6 +33,7 @@ module _ (s t : DiskState) (on : s.off ≡ false) (shrinks : Shrinks s t) where
     cuts = calls.cuts;
     failed = λ e. calls.failed (word_failed 0 word.Quiet (Some f) refl e);
     cut = λ e. calls.cut on (word_cut 0 word.Quiet (Some f) refl e);
+    last = λ e. calls.last on ∙ ap (λ (o : Option DiskError). failed_after 2 s.failed o) (word_failed 0 word.Quiet (Some f) refl e);
     off = calls.now_off ∙ word_off 0 word.Quiet (Some f) refl;
     tells = calls.tells;
     due = loading_due (Some f) word.Quiet (λ armed after spared. spared) refl calls;
@@ -62,6 +63,7 @@ module _ (s t : DiskState) (on : s.off ≡ false) (shrinks : Shrinks s t) where
     faults = calls.faults;
     cuts = calls.cuts;
     failed = λ e. absurd (let none : false ≡ true = e in cc);
+    last = λ e. absurd (let none : false ≡ true = e in cc);
     cut = λ e. absurd (let none : false ≡ true = e in cc);
     off = calls.now_off;
     tells = calls.tells;
@@ -82,6 +84,7 @@ module _ (s t : DiskState) (on : s.off ≡ false) (shrinks : Shrinks s t) where
     faults = calls.faults;
     cuts = calls.cuts;
     failed = λ e. absurd (let none : false ≡ true = e in cc);
+    last = λ e. absurd (let none : false ≡ true = e in cc);
     cut = λ e. absurd (let none : false ≡ true = e in cc);
     off = calls.now_off;
     tells = calls.tells;
@@ -108,6 +111,7 @@ started_work calls w s m t starts work = record {
   cuts = omega (arith, work.cuts, starts.counts.cuts);
   failed = λ e. subst (λ (n : ℕ). Rose n t.faults) starts.counts.faults (work.failed e);
   cut = λ e. subst (λ (n : ℕ). Rose n t.cuts) starts.counts.cuts (work.cut e);
+  last = work.last;
   off = work.off;
   tells = work.tells ∙ starts.tells;
   due = subst (λ (a : Option (Option Arming)). DueTold calls a w t.armed) starts.armed work.due;

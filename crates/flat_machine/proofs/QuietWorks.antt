@@ -73,6 +73,7 @@ module _ (before after : Shared) (keeps : KeepsDevice before after) where
       faults = omega arith;
       cuts = omega arith;
       failed = λ e. absurd (let none : false ≡ true = e in cc);
+      last = λ e. absurd (let none : false ≡ true = e in cc);
       cut = λ e. absurd (let none : false ≡ true = e in cc);
       off = refl;
       on = λ on. kept.tied.on (on_before on);

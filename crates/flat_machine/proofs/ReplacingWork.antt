@@ -1,6 +1,6 @@
 -- Replacements of slots, as device work.
 use Rattle.disk_core.specs.DiskStates.{Arming, DiskState, EachImage, IsDiskState, IsOnlyImage}
-use Rattle.disk_core.specs.Disks.{strike_fault, struck_within}
+use Rattle.disk_core.specs.Disks.{failed_after, strike_fault, struck_within}
 use Rattle.disk_core.specs.declared.disk.DiskError.TheVariants as fault
 use Rattle.disk_core.specs.declared.disk.DiskError.{DiskError}
 use Rattle.flat_machine.proofs.ToldBytes.{told_always, told_both, with_told}
@@ -155,6 +155,7 @@ module _ (range : Range) (todo : List Change) (count : ℕ) (o : Option DiskErro
     cuts = made.calls.cuts;
     failed = λ e. made.calls.failed (word_failed count (done_word todo) o (done_not_failed todo) e);
     cut = λ e. made.calls.cut on (word_cut count (done_word todo) o (done_not_cut todo) e);
+    last = λ e. made.calls.last on ∙ ap (λ (x : Option DiskError). failed_after (calls_of count o) s.failed x) (word_failed count (done_word todo) o (done_not_failed todo) e);
     off = made.calls.now_off ∙ word_off count (done_word todo) o (done_not_cut todo);
     tells = made.calls.tells;
     due = work_due;

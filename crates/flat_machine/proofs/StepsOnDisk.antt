@@ -47,6 +47,7 @@ work_on_disk before after switch calls w s t work runs power shows = record {
   cuts = work.cuts;
   failed = work.failed;
   cut = work.cut;
+  last = work.last;
   off = work.off ∙ sym (on_if (is_cut w)) ∙ sym (ap (λ (was : Bool). if is_cut w then true else was) runs);
   on = λ ready. work.off ∙ power ready;
   tells = work.tells;
@@ -96,6 +97,7 @@ keeps_then before x after switch calls w new s t keeps first = record {
     cuts = first.on_disk.cuts;
     failed = first.on_disk.failed;
     cut = first.on_disk.cut;
+    last = first.on_disk.last;
     off = first.on_disk.off;
     on = λ on. first.on_disk.on (on_before x after keeps on);
     tells = first.on_disk.tells;
@@ -169,6 +171,7 @@ off_keeps p store s t on laws kept stopped = keeps_then p (record p { device = O
     faults = omega (arith, stopped.counts.faults);
     cuts = omega (arith, stopped.counts.cuts);
     failed = λ e. absurd (let none : false ≡ true = e in cc);
+    last = λ e. absurd (let none : false ≡ true = e in cc);
     cut = λ e. absurd (let none : false ≡ true = e in cc);
     off = stopped.off;
     on = λ ready. absurd (let none : true ≡ false = ready in cc);

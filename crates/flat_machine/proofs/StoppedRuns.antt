@@ -1,32 +1,23 @@
 -- A device that is stopped was stopped by a failed call, and nothing was loaded since; and no pending request is overdue.
 use Rattle.flat_machine.proofs.BoolLemmas.{and_of}
 use Rattle.flat_machine.proofs.HistoryLemmas.{run_from-append}
-use Rattle.flat_machine.proofs.PowerLemmas.{plan_of_any_count}
+use Rattle.flat_machine.proofs.LoadingSteps.{loaded_step}
 use Rattle.flat_machine.proofs.SteadyWalk.{steady}
-use Rattle.flat_machine.specs.Commands.{work_of}
 use Rattle.flat_machine.specs.DiskSteps.{is_failed, is_loaded}
 use Rattle.flat_machine.specs.EndingFacts.{IsStoppedSince}
 use Rattle.flat_machine.specs.Facts.{IsStart}
-use Rattle.flat_machine.specs.FinishSteps.{finish_with, performs, plan_finish, plan_of}
 use Rattle.flat_machine.specs.Histories.{FitsFrom}
 use Rattle.flat_machine.specs.Machine.{Act, fits, next, run_from}
-use Rattle.flat_machine.specs.Power.{Loading, Nothing, Plan, fits_plan, loads}
 use Rattle.flat_machine.specs.Settings.{Setting}
-use Rattle.flat_machine.specs.State.{Flat, Said, Shared, is_off, owner_of, unchanged}
+use Rattle.flat_machine.specs.State.{Flat}
 use Rattle.flat_machine.specs.declared.types.Device.TheVariants.{Off, Ready, Stopped}
-use Rattle.flat_machine.specs.declared.types.Work.{Work}
-use Rattle.flat_machine.specs.declared.types.Work.TheVariants as work
 use Rattle.key_table.specs.KeyRows.{KeyRows}
-use Rattle.request_queue.specs.Requests.{request_in_work}
-use Rattle.request_queue.specs.declared.requests.Request.{Request}
-use Rattle.pad_steps.specs.declared.commands.Command.{Command}
 use Rattle.pad_steps.specs.declared.steps.DiskWord.{DiskWord}
 use Rattle.pad_steps.specs.declared.steps.DiskWord.TheVariants as word
 use Rattle.pad_steps.specs.declared.steps.Step.{Step}
-use Rattle.pad_steps.specs.declared.steps.Step.TheVariants as step
 use Rattle.std.proofs.Common.{ap, inl, inr, subst, sym, ◌∙◌}
 use Rattle.std.specs.List.{list_all}
-use Rattle.std.specs.Prelude.{Bool, IsTrue, List, None, Option, Some, [], cond, false, length, not, refl, true, ℕ, ◌++◌, ◌∷◌, ◌≡◌, ◌⊎◌}
+use Rattle.std.specs.Prelude.{IsTrue, List, [], not, refl, true, ◌++◌, ◌∷◌, ◌≡◌, ◌⊎◌}
 
 -- at every moment of the run the device is stopped
 abbrev StoppedAll : Setting → Flat → List Act → Type 0
@@ -77,48 +68,9 @@ stopped_by_fault set start acts (inr e) is = start_runs set start acts (λ s. re
     ready_not : Ready ≡ Stopped → ⊥
     ready_not e = cc
 
--- a word that loaded rows, where it fits, makes the device ready and the rows the machine's
-
-abbrev LoadedIn : KeyRows → Said → Type 0
-LoadedIn rows x = (x.shared.device ≡ Ready) × (x.shared.keys ≡ rows)
-
-loaded_work : (set : Setting) (p : Shared) (held : List ℕ) (a : Request Command) (v : Work) (rows : KeyRows) → fits_plan (plan_of p v) (word.Loaded rows) ≡ true → LoadedIn rows (performs set p held (owner_of a) v (word.Loaded rows))
-loaded_work set p held a work.Waits rows f = cc
-loaded_work set p held a (work.Refuse r accused) rows f = cc
-loaded_work set p held a (work.Answer x) rows f = cc
-loaded_work set p held a (work.Maintain on) rows f = cc
-loaded_work set p held a (work.Keep slot row check from_part) rows f = cc
-loaded_work set p held a (work.Erase slot) rows f = cc
-loaded_work set p held a work.EraseAll rows f = cc
-loaded_work set p held a (work.Release r first second draws) rows f = cc
-loaded_work set p held a work.Load rows f = (refl, refl)
-
-loaded_finish : (set : Setting) (p : Shared) (held : List ℕ) (o : Option (Request Command)) (rows : KeyRows) → fits_plan (plan_finish set p o) (word.Loaded rows) ≡ true → LoadedIn rows (finish_with set p held o (word.Loaded rows))
-loaded_finish set p held None rows f = cc
-loaded_finish set p held (Some a) rows f = loaded_work set p held a (work_of set p (length held) a.command) rows (ap (λ (calls : Plan). fits_plan calls (word.Loaded rows)) (plan_of_any_count set p (length held) 0 a.command) ∙ f)
-
-loaded_boot : (p : Shared) (rows : KeyRows) (b : Bool) → fits_plan (cond b Loading Nothing) (word.Loaded rows) ≡ true → LoadedIn rows (cond b (loads p (word.Loaded rows)) (unchanged p))
-loaded_boot p rows true f = (refl, refl)
-loaded_boot p rows false f = cc
-
-loaded_step : (set : Setting) (h : Flat) (s : Step) (rows : KeyRows) → fits set h.shared s (word.Loaded rows) ≡ true → ((next set h s (word.Loaded rows)).state.shared.device ≡ Ready) × ((next set h s (word.Loaded rows)).state.shared.keys ≡ rows)
-loaded_step set h (step.Open t) rows f = cc
-loaded_step set h (step.Close t) rows f = cc
-loaded_step set h (step.Listen t c) rows f = cc
-loaded_step set h (step.Lock t) rows f = cc
-loaded_step set h (step.Unlock t) rows f = cc
-loaded_step set h (step.Submit t limit c) rows f = cc
-loaded_step set h (step.Cancel t id) rows f = cc
-loaded_step set h step.Begin rows f = cc
-loaded_step set h step.Finish rows f = loaded_finish set h.shared h.held (request_in_work h.shared.requests) rows f
-loaded_step set h (step.Press k) rows f = cc
-loaded_step set h (step.Tick n) rows f = cc
-loaded_step set h (step.Ask t q) rows f = cc
-loaded_step set h step.Off rows f = cc
-loaded_step set h step.Boot rows f = loaded_boot h.shared rows (is_off h.shared.device) f
-
+-- a word that loaded rows, where it fits, makes the device ready
 pub loaded_ready : (set : Setting) (h : Flat) (s : Step) (rows : KeyRows) → IsTrue (fits set h.shared s (word.Loaded rows)) → (next set h s (word.Loaded rows)).state.shared.device ≡ Ready
-loaded_ready set h s rows f = (loaded_step set h s rows f).0
+loaded_ready set h s rows f = (loaded_step set h s rows f).ready
 
 -- so nothing was loaded since the call that failed, where every word fits
 

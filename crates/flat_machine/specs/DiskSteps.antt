@@ -122,6 +122,8 @@ module _ (layout : Layout) where
     pub cuts : s.cuts ≤ t.cuts
     pub failed : IsTrue (is_failed word) → Rose s.faults t.faults
     pub cut : IsTrue (is_cut word) → Rose s.cuts t.cuts
+    -- no call follows one that failed
+    pub last : IsTrue (is_failed word) → t.failed ≡ true
     pub off : t.off ≡ is_cut word
     pub tells : is_some t.content ≡ is_some s.content
     -- the word is due by what is armed
@@ -139,6 +141,8 @@ module _ (layout : Layout) where
     pub cuts : s.cuts ≤ t.cuts
     pub failed : IsTrue (is_failed word) → Rose s.faults t.faults
     pub cut : IsTrue (is_cut word) → Rose s.cuts t.cuts
+    -- no call follows one that failed
+    pub last : IsTrue (is_failed word) → t.failed ≡ true
     -- a cut and a switch stop and start the disk, and it is on while the device is not off
     pub off : t.off ≡ (if is_cut word then true else switch s.off)
     pub on : is_off after.device ≡ false → t.off ≡ false

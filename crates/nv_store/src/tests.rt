@@ -1,4 +1,6 @@
 //! Replacements with a strike at each of their calls, over a disk in memory, against answers written down by hand.
+ghost use Rattle.std.specs.Prelude.{◌≤◌};
+
 use crate::{SLOTS, Store};
 use disk_core::{ArmDisk, Disk, DiskError, Keep, MemDisk, PowerDisk, Strike};
 use std::test::Fail;
@@ -85,6 +87,9 @@ fn settled(rt: HostRuntime) -> Result<(), Fail> {
     Ok(())
 }
 
+/// A call that no replacement comes to, since each arms anew.
+const NEVER: u32 = 1000;
+
 // A replacement by a cell of this byte, cut at one of its four calls or not at all; then the disk is switched on and loaded.
 fn cut_and_loaded(
     store: &mut Store,
@@ -92,12 +97,12 @@ fn cut_and_loaded(
     slot: u8,
     byte: u8,
     call: u32,
-) -> Result<[u8; 96], DiskError> {
+) -> Result<[u8; 96], DiskError>
+    requires { 1 ≤ call }
+{
     let slot = slot % SLOTS;
     store.load(disk)?;
-    if let 1..=4 = call {
-        disk.arm(call, Strike::Cut(Keep::Fill(byte)));
-    }
+    disk.arm(call, Strike::Cut(Keep::Fill(byte)));
     let _ = store.replace(disk, slot, &[byte; 96]);
     disk.on();
     store.load(disk)?;
@@ -112,7 +117,12 @@ fn thousand_cuts(rt: HostRuntime) -> Result<(), Fail> {
     let mut bytes = [0u8; 64];
     for number in 0..1000u32 {
         let (slot, byte) = ((number * 7 % 64) as u8, (number * 31 % 256) as u8);
-        let cell = cut_and_loaded(&mut store, &mut disk, slot, byte, number % 5 + 1)?;
+        let call = if number % 5 < 4 {
+            number % 5 + 1
+        } else {
+            NEVER
+        };
+        let cell = cut_and_loaded(&mut store, &mut disk, slot, byte, call)?;
         let old = bytes[slot as usize % 64];
         assert!(rt;
             cell == [byte; 96] || cell == [old; 96],

@@ -60,6 +60,7 @@ module _ (pin_rules : PinRules) where
     cuts = on.cuts;
     failed = on.failed;
     cut = on.cut;
+    last = on.last;
     off = on.off ∙ ap (λ (b : Bool). if is_cut word then true else b) (sym (same s.off));
     on = on.on;
     tells = on.tells;

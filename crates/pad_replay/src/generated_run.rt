@@ -41,7 +41,7 @@ impl Replay {
     {
         disk_runs_join::<D>();
         store_history_goes_on::<D>();
-        let mut sink = Counted::new(Discard);
+        let mut sink = Counted::new(Discard::new());
         let mut count = 0;
         loop {
             match script.next_line(alloc) {
