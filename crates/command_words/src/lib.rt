@@ -4,6 +4,26 @@
 ghost use Rattle.std.specs.Prelude.{◌≡◌};
 ghost use Rattle.command_words.specs.CommandWords.{is_word, seed_of};
 
+use std::{env, io};
+
+/// The words of the command line, without the program's name. A word that is no text is of no form: with one there are
+/// no words. None where there is want of memory.
+pub fn program_words(rt: &HostRuntime) -> Option<Vec<String>> {
+    match read_words(rt) {
+        Ok(words) => Some(words),
+        Err(fault) if fault.kind() == io::ErrorKind::OutOfMemory => None,
+        Err(_) => Some(Vec::new(rt.alloc())),
+    }
+}
+
+fn read_words(rt: &HostRuntime) -> io::Result<Vec<String>> {
+    let mut words = Vec::new(rt.alloc());
+    for word in env::args(rt)?.skip(1) {
+        words.push(word)?;
+    }
+    Ok(words)
+}
+
 /// The word is this text.
 pub fn is_word(word: &String, text: &str) -> bool
     ensures { result ≡ is_word word.now text.now }
