@@ -1,5 +1,5 @@
-//! Makes each call of the disk fail, and the power be cut in it, each call of a source and of a sink fail, and a script
-//! end anywhere, and compares what is printed with what must be.
+//! Makes each call of the disk fail, and the power be cut in it, each call of a source and of a sink fail, a script end
+//! and a sink be full anywhere, and a script and a line be as long as can be, and compares what is printed with what must be.
 //!
 //! A line is printed for each table of runs, with its name and how many were compared, and below it each run that ended
 //! otherwise than it must. The status is 0 where there is none, and else 1; 5 where memory was wanting. The folder
@@ -7,9 +7,12 @@
 //! is made where the program runs, and removed.
 #![tactic(auto)]
 
+mod endings;
 mod erasures;
 mod file_stores;
+mod limits;
 mod loadings;
+mod memory;
 mod names;
 mod ordinary;
 mod run;
@@ -18,11 +21,14 @@ mod streams;
 mod strikes;
 mod table;
 
+use crate::endings::{endings, forms};
 use crate::erasures::erasures;
 use crate::file_stores::file_stores;
+use crate::limits::limits;
 use crate::loadings::{boots, flaky_imports};
+use crate::memory::lists;
 use crate::stores::bad_stores;
-use crate::streams::{fronts, sinks, sources};
+use crate::streams::{fronts, rooms, sinks, sources};
 use crate::strikes::strikes;
 use crate::table::Table;
 use std::alloc::{AllocError, Global};
@@ -48,6 +54,11 @@ fn tables(alloc: Global) -> Result<Vec<Table>, AllocError> {
     tables.push(bad_stores(alloc)?)?;
     tables.push(sources(alloc)?)?;
     tables.push(sinks(alloc)?)?;
+    tables.push(rooms(alloc)?)?;
+    tables.push(limits(alloc)?)?;
+    tables.push(endings(alloc)?)?;
+    tables.push(forms(alloc)?)?;
+    tables.push(lists(alloc)?)?;
     Ok(tables)
 }
 

@@ -1,10 +1,11 @@
-//! The script of ordinary use: a key, a PIN and its block.
+//! The script of ordinary use: a key, a PIN and its block. One line is blank.
 
 use std::alloc::{AllocError, Global};
 
 /// Each line of the script with what is printed of it.
-const LINES: [(&str, &str); 14] = [
+const LINES: [(&str, &str); 15] = [
     ("boot\n", "> boot / loaded 0 first\n"),
+    ("\n", ""),
     ("open 1\n", "> open 1\n< 1 told open\n"),
     (
         "listen 1 execute\n",
@@ -76,4 +77,25 @@ pub fn first_bytes(alloc: Global, size: usize) -> Result<Front, AllocError> {
         front.printed.push_str(printed)?;
     }
     Ok(front)
+}
+
+/// How many lines are run, and how many bytes were read for them, where so many bytes are printed and no more. The line
+/// whose text goes beyond them is run where its last step was taken, so where the text of that step is come to.
+pub fn lines_reached(room: usize) -> (u32, usize) {
+    let mut lines: u32 = 0;
+    let mut bytes: usize = 0;
+    let mut text: usize = 0;
+    for (line, printed) in LINES {
+        bytes = bytes.saturating_add(line.len());
+        let last = printed.rfind("> ").unwrap_or(0);
+        if text.saturating_add(last) > room {
+            break;
+        }
+        lines = lines.saturating_add(1);
+        text = text.saturating_add(printed.len());
+        if text > room {
+            break;
+        }
+    }
+    (lines, bytes)
 }

@@ -75,6 +75,7 @@ pub fn bad_stores(alloc: Global) -> Result<Table, AllocError> {
         good_record(alloc, &mut table, selector)?;
     }
     same_name(alloc, &mut table)?;
+    refused_commands(alloc, &mut table)?;
     Ok(table)
 }
 
@@ -124,4 +125,21 @@ fn same_name(alloc: Global, table: &mut Table) -> Result<(), AllocError> {
     let outcome = boot(alloc, bytes)?;
     let is_wanted = outcome.is_ended(0, "> boot / bad 5\n");
     table.compare("slots 0 and 5 have the same name", is_wanted, &outcome)
+}
+
+// The first byte of slot 0 is 9: commands are refused, and so are questions about keys.
+fn refused_commands(alloc: Global, table: &mut Table) -> Result<(), AllocError> {
+    let mut bytes = [0; DISK_BYTES];
+    bytes[HALVES] = 9;
+    let script = b"boot\nopen 1\nsubmit 1 0 init\nauto\nask 1 status\nask 1 names\n";
+    let printed = "> boot / bad 0\n> open 1\n< 1 told open\n> submit 1 0 init\n< 1 request 1\n\
+        > begin\n> finish\n< 1 ended 1 BADSTORE 0\n> ask 1 status\n\
+        < 1 told status bad keys 0 holder 0 entry no pin no pending 0\n\
+        > ask 1 names\n< 1 told BADSTORE 0\n";
+    let outcome = run(alloc, script, SOUND, &mut MemDisk::of(bytes))?;
+    table.compare(
+        "commands over a bad store",
+        outcome.is_ended(0, printed),
+        &outcome,
+    )
 }

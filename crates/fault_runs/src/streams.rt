@@ -1,16 +1,15 @@
-//! The script of ordinary use ends behind each of its bytes, and each call of its source and of its sink fails.
+//! The script of ordinary use ends behind each of its bytes, each call of its source and of its sink fails, and its sink
+//! is full at each length.
 
-use crate::ordinary::{first_bytes, script};
+use crate::ordinary::{first_bytes, lines_reached, script};
 use crate::run::{SOUND, Streams, run};
 use crate::table::Table;
 use disk_core::MemDisk;
 use std::alloc::{AllocError, Global};
 
-/// How many bytes the source gives in a call where a call of it fails.
-const PIECE: usize = 7;
-
-/// How many calls of the source are tried. The script has 257 bytes, so the 38th call finds the end.
-const SOURCE_CALLS: u8 = 40;
+/// How many bytes the source gives in a call, and how many calls of it are tried. The script has 258 bytes, so the 38th
+/// and the 259th call find the end.
+const SOURCES: [(u32, u32); 2] = [(7, 40), (1, 261)];
 
 /// How many calls of the sink are tried. The script has 16 steps.
 const SINK_CALLS: u32 = 30;
@@ -26,38 +25,54 @@ pub fn fronts(alloc: Global) -> Result<Table, AllocError> {
         let name = format!(in alloc; "{size} bytes")?;
         let bad = front.lines.saturating_add(1);
         let marked = format!(in alloc; "{}! bad line {bad}\n", front.printed)?;
-        let is_wanted = if front.is_whole {
+        let is_ended = if front.is_whole {
             outcome.is_ended(0, front.printed.as_str()) && outcome.line == front.lines
         } else {
             outcome.is_ended(1, marked.as_str()) && outcome.line == bad
         };
+        let is_wanted = is_ended && outcome.steps == steps_of(front.printed.as_str());
         table.compare(name.as_str(), is_wanted, &outcome)?;
     }
     Ok(table)
 }
 
 /// The table of a source of which each call fails, the one that finds the end too: the lines that were taken whole are
-/// run and printed, and no others.
+/// run and printed, and no others, and what was not taken is left.
 pub fn sources(alloc: Global) -> Result<Table, AllocError> {
     let mut table = Table::named(alloc, "a fault in each call of the source");
     let script = script(alloc)?;
-    for call in 1..=SOURCE_CALLS {
-        let streams = Streams {
-            piece: PIECE,
-            source_fails: Some(u32::from(call)),
-            sink_fails: None,
-        };
-        let outcome = run(alloc, script.as_bytes(), streams, &mut MemDisk::new())?;
-        let before = usize::from(call).saturating_sub(1).saturating_mul(PIECE);
-        let is_made = before < script.len().saturating_add(PIECE);
-        let front = first_bytes(alloc, before.min(script.len()))?;
-        let status = if is_made { 3 } else { 0 };
-        let is_wanted = outcome.is_ended(status, front.printed.as_str())
-            && outcome.line == front.lines;
-        let name = format!(in alloc; "call {call} of the source fails")?;
-        table.compare(name.as_str(), is_wanted, &outcome)?;
+    for (piece, calls) in SOURCES {
+        for call in 1..=calls {
+            compare_source(alloc, script.as_str(), piece as usize, call, &mut table)?;
+        }
     }
     Ok(table)
+}
+
+fn compare_source(
+    alloc: Global,
+    script: &str,
+    piece: usize,
+    call: u32,
+    table: &mut Table,
+) -> Result<(), AllocError> {
+    let streams = Streams {
+        piece,
+        source_fails: Some(call),
+        ..SOUND
+    };
+    let outcome = run(alloc, script.as_bytes(), streams, &mut MemDisk::new())?;
+    let before = (call as usize).saturating_sub(1).saturating_mul(piece);
+    let is_made = before < script.len().saturating_add(piece);
+    let taken = before.min(script.len());
+    let front = first_bytes(alloc, taken)?;
+    let status = if is_made { 3 } else { 0 };
+    let is_wanted = outcome.is_ended(status, front.printed.as_str())
+        && outcome.line == front.lines
+        && outcome.steps == steps_of(front.printed.as_str())
+        && outcome.left == script.len() - taken;
+    let name = format!(in alloc; "call {call} of a source of {piece} bytes a call fails")?;
+    table.compare(name.as_str(), is_wanted, &outcome)
 }
 
 /// The table of a sink of which each call fails. The text of a step is one call, so that of the steps before it is
@@ -86,6 +101,50 @@ pub fn sinks(alloc: Global) -> Result<Table, AllocError> {
         )?;
     }
     Ok(table)
+}
+
+/// The table of a sink that is full at each length: the step whose text is cut is the last that is taken, its line the
+/// last that is counted, and nothing behind that line is read.
+pub fn rooms(alloc: Global) -> Result<Table, AllocError> {
+    let mut table = Table::named(alloc, "a sink that is full at each length");
+    let script = script(alloc)?;
+    let whole = first_bytes(alloc, script.len())?;
+    for room in 0..whole.printed.len() {
+        let streams = Streams {
+            piece: 1,
+            room,
+            ..SOUND
+        };
+        let outcome = run(alloc, script.as_bytes(), streams, &mut MemDisk::new())?;
+        let printed = &whole.printed.as_bytes()[..room];
+        let (lines, bytes) = lines_reached(room);
+        let is_wanted = outcome.status == 4
+            && outcome.printed.as_slice() == printed
+            && outcome.line == lines
+            && outcome.left == script.len().saturating_sub(bytes)
+            && outcome.steps == steps_begun(whole.printed.as_str(), room);
+        let name = format!(in alloc; "room for {room} bytes")?;
+        table.compare(name.as_str(), is_wanted, &outcome)?;
+    }
+    Ok(table)
+}
+
+// How many steps are printed. The text of a step begins with `> `.
+fn steps_of(printed: &str) -> usize {
+    steps_begun(printed, printed.len())
+}
+
+// How many steps are printed whose text begins among the first bytes, or just behind them.
+fn steps_begun(printed: &str, size: usize) -> usize {
+    let mut steps: usize = 0;
+    let mut at: usize = 0;
+    for line in printed.lines() {
+        if line.starts_with("> ") && at <= size {
+            steps = steps.saturating_add(1);
+        }
+        at = at.saturating_add(line.len()).saturating_add(1);
+    }
+    steps
 }
 
 // What is printed before the step of this number, counted from 1. The text of a step begins with `> `.

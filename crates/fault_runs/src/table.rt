@@ -45,6 +45,15 @@ impl Table {
         )
     }
 
+    /// Counts something other than a run, and tells it where it is not as it must be.
+    pub fn check(&mut self, what: &str, is_wanted: bool) -> Result<(), AllocError> {
+        self.count = self.count.saturating_add(1);
+        if is_wanted {
+            return Ok(());
+        }
+        writeln!(self.told, "{what}: not as it must be")
+    }
+
     /// The table's name.
     pub fn name(&self) -> &'static str {
         self.name

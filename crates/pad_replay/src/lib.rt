@@ -9,8 +9,6 @@ mod replay;
 mod script_reader;
 mod script_run;
 mod tally;
-#[cfg(test)]
-mod tests;
 mod top;
 
 pub use command_line::store_path;
