@@ -4,8 +4,8 @@
     docs/crates.py
 
 Each group of GROUPS is a panel. An arrow goes from a group to one that its crates use, where no way over other groups
-tells so already. The script draws nothing, and says why, where a crate of crates.txt is in no group, or where a crate
-uses one of a higher layer.
+tells so already. Crates of tests alone, whose names end in _tests, are left out. The script draws nothing, and says why,
+where another crate of crates.txt is in no group, or where a crate uses one of a higher layer.
 """
 
 import pathlib
@@ -55,7 +55,7 @@ def read_uses(path):
     named = {}
     for line in path.read_text().splitlines():
         head, found, tail = line.partition("#")[0].partition(":")
-        if found:
+        if found and not head.split()[0].endswith("_tests"):
             named[head.split()[0]] = tail.split()
     return {crate: [it for it in uses if it in named] for crate, uses in named.items()}
 

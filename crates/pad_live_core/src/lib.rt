@@ -29,6 +29,3 @@ pub use printing::print_history;
 pub use run::{LiveEnded, run_live};
 pub use stop::Stop;
 pub use worker::{WorkerEnd, run_worker};
-
-#[cfg(test)]
-mod tests;

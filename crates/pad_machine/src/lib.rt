@@ -17,7 +17,5 @@ mod running_entry;
 mod saying;
 mod shared_part;
 mod submits;
-#[cfg(test)]
-mod tests;
 
 pub use pad::{Pad, Stepped};

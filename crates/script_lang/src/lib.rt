@@ -36,10 +36,3 @@ pub use laws::{
 pub use line_reader::{LineReader, Taken};
 pub use reading::read_line;
 pub use writing::write_step;
-
-#[cfg(test)]
-mod lane_tests;
-#[cfg(test)]
-mod line_tests;
-#[cfg(test)]
-mod tests;

@@ -5,10 +5,10 @@ ghost use Rattle.pad_steps.specs.declared.commands.Start.TheVariants.{Zero};
 
 mod jobs;
 
-use crate::{Pad, Stepped};
 use crypt_commands::{CryptDone, CryptJob};
 use disk_core::MemDisk;
 use local_check::StandardWork;
+use pad_machine::{Pad, Stepped};
 use pad_steps::{
     Algorithm, Answer, Command, CryptRequest, DiskWord, ImportRequest, ImportSource, Out, Outs,
     Question, Reply, Start, Step, Told, Verify,

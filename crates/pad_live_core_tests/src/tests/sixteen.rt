@@ -1,8 +1,8 @@
 //! Sixteen lanes over one pad.
 use super::runs::words_of;
-use crate::{Gate, run_live};
 use disk_core::{Calls, Counted, MemDisk, MemSink, MemSource};
 use pad_desk::{History, StepOut};
+use pad_live_core::{Gate, run_live};
 use pad_steps::{Command, Out, Question, Step, Told};
 use pad_words::{Octets, Session};
 use std::alloc::Global;

@@ -2,11 +2,11 @@
 ghost use Rattle.std.specs.Prelude.{IsTrue};
 ghost use Rattle.pad_steps.specs.Formed.{is_well_formed};
 
-use crate::{Line, LineFault, read_line, spelled_again, write_step, writing};
 use disk_core::{Keep, Strike};
 use key_source::Key;
 use pad_steps::{Command, ImportSource, PinRequest, Question, Step};
 use pad_words::{Digit, NoMemory, Octets};
+use script_lang::{Line, LineFault, read_line, spelled_again, write_step, writing};
 use std::alloc::Global;
 
 /// What a line is: a step that is printed as it was or with upper case, or no line at all.

@@ -3,12 +3,12 @@ ghost use Rattle.std.specs.Prelude.{IsTrue};
 ghost use Rattle.pad_steps.specs.Formed.{is_well_formed};
 ghost use Rattle.script_lang.specs.LaneSpelling.{IsFormedStep};
 
-use crate::writing::write_number;
-use crate::{
-    LaneId, LaneLine, LaneStep, LineFault, lane_lines_are_spelled, read_lane_line, write_step,
-};
 use pad_steps::Step;
 use pad_words::{NoMemory, Octets, Session};
+use script_lang::writing::write_number;
+use script_lang::{
+    LaneId, LaneLine, LaneStep, LineFault, lane_lines_are_spelled, read_lane_line, write_step,
+};
 use std::alloc::Global;
 
 /// What a line is: its lane, and the session and the number of a step that stands in lane scripts alone.

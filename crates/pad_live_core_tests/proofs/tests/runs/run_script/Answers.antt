@@ -1,6 +1,6 @@
 use Rattle.std.proofs.Common.{ap}
 use Rattle.disk_core.specs.DiskMemories.{DiskMemory}
-use Rattle.pad_live_core.proofs.tests.runs.run_script.Goals as goal
+use Rattle.pad_live_core_tests.proofs.tests.runs.run_script.Goals as goal
 
 pub run_live-ended-requires-clause-fresh : goal.run_live-ended-requires-clause-fresh
 run_live-ended-requires-clause-fresh g c κs within = record {

@@ -1,7 +1,7 @@
 //! Two lanes that wait for each other at a gate, so that neither can be done before the other.
 use super::runs::words_of;
-use crate::{Gate, run_live};
 use disk_core::{Calls, Counted, MemDisk, MemSink, MemSource};
+use pad_live_core::{Gate, run_live};
 use pad_words::Octets;
 use std::alloc::Global;
 use std::sync::Wait;

@@ -2,9 +2,9 @@
 ghost use Rattle.std.specs.Prelude.{◌<◌, ◌≤◌, length};
 ghost use Rattle.script_lang.specs.Lines.{Reader};
 
-use crate::{Line, LineReader, Taken, scripts_are_read_line_by_line};
 use disk_core::{Calls, Failed, MemSource};
 use pad_words::{NoMemory, Octets};
+use script_lang::{Line, LineReader, Taken, scripts_are_read_line_by_line};
 use std::alloc::Global;
 
 /// What a call answers.

@@ -1,6 +1,6 @@
 //! Lane scripts over memory.
-use crate::{OpenGate, run_live};
 use disk_core::{Calls, Counted, MemDisk, MemSink, MemSource};
+use pad_live_core::{OpenGate, run_live};
 use pad_words::Octets;
 use std::alloc::Global;
 use std::sync::Wait;

@@ -1,6 +1,6 @@
 use Rattle.std.proofs.Common.{ap}
 use Rattle.disk_core.specs.DiskMemories.{DiskMemory}
-use Rattle.pad_live_core.proofs.tests.sixteen.sixteen_lanes.Goals as goal
+use Rattle.pad_live_core_tests.proofs.tests.meeting.are_met.Goals as goal
 
 pub run_live-ended-requires-clause-fresh : goal.run_live-ended-requires-clause-fresh
 run_live-ended-requires-clause-fresh g c κs within = record {

@@ -1,5 +1,5 @@
 use Rattle.std.proofs.Common.{length, ◌≤◌}
-use Rattle.script_lang.proofs.line_tests.are_answered.Given as goal
+use Rattle.script_lang_tests.proofs.lines.are_answered.Given as goal
 
 abbrev pub invariant-loop-wanted : goal.invariant-loop-wanted
 invariant-loop-wanted l = length l.reader.kept ≤ 4096
