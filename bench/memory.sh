@@ -106,7 +106,7 @@ cat >"$work/wanted/struck" <<'END'
 < 1 told names 1 PPK
 END
 
-# The library that makes the allocation of the number in FAILING fail.
+# The library that makes the allocation of the number in FAILING fail, and tells so.
 cat >"$work/failing.c" <<'END'
 #include <errno.h>
 #include <stdlib.h>
@@ -122,14 +122,10 @@ __attribute__((constructor)) static void begin(void) {
     left = number ? strtol(number, NULL, 10) : 0;
 }
 
-__attribute__((destructor)) static void end(void) {
-    if (left > 0)
-        (void)!write(2, "unreached\n", 10);
-}
-
 static int is_failing(void) {
     if (left <= 0 || __sync_sub_and_fetch(&left, 1) != 0)
         return 0;
+    (void)!write(2, "refused\n", 8);
     errno = ENOMEM;
     return 1;
 }
@@ -243,16 +239,17 @@ are_lanes() {
 }
 
 number=1
-reached=yes
+unreached=0
 if [ "$program" = unproved ] || [ ! -x "$live" ]; then
     echo "no lanes are run: $live is not there, or the program is unproved"
-    reached=no
+    unreached=3
 fi
-while [ "$reached" = yes ]; do
+while [ "$unreached" -lt 3 ]; do
     status=0
     FAILING=$number LD_PRELOAD=$work/failing.so timeout 60 "$live" live \
         <"$work/lanes" >"$work/printed/lanes" 2>"$work/said" || status=$?
-    ! grep -q '^unreached$' "$work/said" || reached=no
+    unreached=$((unreached + 1))
+    ! grep -q '^refused$' "$work/said" || unreached=0
     echo "allocation $number: lanes $status $(wc -c <"$work/printed/lanes")"
     compared=$((compared + 1))
     case $status in
